@@ -1,6 +1,6 @@
 -- What a set gains by a candidate: over the rows, and as the difference of two values.
 use Rattle.std.proofs.lemmas.Grind.{common_steps}
-use Rattle.std.proofs.Common.{◌≡◌, ℕ, zero, suc, ◌+◌, ◌-◌, ◌*◌, ◌/◌, ◌<◌, ◌≤◌, ◌^◌, ◌∙◌, Bool, true, false, cond, List, [], ◌∷◌, Some, refl, sym, ap, arith, length, take, get_or, slice_get, sum, sum_by, add-one}
+use Rattle.std.proofs.Common.{◌≡◌, ℕ, zero, suc, ◌+◌, ◌-◌, ◌*◌, ◌/◌, ◌<◌, ◌≤◌, ◌^◌, ◌∙◌, Bool, true, false, cond, List, [], ◌∷◌, Some, refl, sym, ap, arith, length, take, get_or, slice_get, sum, sum_by, add-one, rules}
 use Rattle.std.proofs.lemmas.Bool.{cases_eq, eq-eqb, ne_eqb}
 use Rattle.std.proofs.lemmas.List.Sums.{sum_by-cons, count_by-le-length}
 use Rattle.std.proofs.Math.Nat.{mul-le-mul_right, div-mul-le_self}
@@ -155,18 +155,7 @@ hits-none (n ∷ ballot) = omega (arith, hits-none ballot, sum_by-cons (λ y. co
 voter-most : (e : Election) (shares set : List ℕ) (row : Row) → IsElection e → shares ≡ parts (common_multiple e.m) → IsIncreasing 1 e.m row.0 → hits row.0 set * get_or shares (length row.0) 0 ≤ 2 ^ 90 - 1
 voter-most e shares set ([], voters) valid is up = omega arith
 voter-most e shares set (x ∷ ballot, voters) valid is up =
-    let own : List ℕ = x ∷ ballot in
-    let here : get_or shares (length own) 0 ≡ common_multiple e.m / length own =
-    ap (λ s. get_or s (length own) 0) is ∙ parts-at (common_multiple e.m) (length own) (omega arith) (omega (arith, length-increasing 1 e.m own up, valid.most)) in
-    let product : hits own set * (common_multiple e.m / length own) ≤ length own * (common_multiple e.m / length own) =
-    mul-le-mul_right (common_multiple e.m / length own) (count_by-le-length (has_member set) own) in
-    let turned : length own * (common_multiple e.m / length own) ≡ common_multiple e.m / length own * length own = omega arith in
-    omega (
-      arith,
-      ap (λ n. hits own set * n) here,
-      div-mul-le_self (common_multiple e.m) (length own),
-      common_multiple_small e.m valid.most,
-    )
+    grind (arith, common_steps, parts-at, length-increasing, mul-le-mul_right, count_by-le-length, div-mul-le_self, common_multiple_small)
 
 -- what all voters give
 pub satisfaction-most : (e : Election) (shares set : List ℕ) → IsElection e → shares ≡ parts (common_multiple e.m) → satisfaction_value e.m e.rows set ≤ 2 ^ 122 - 2 ^ 32

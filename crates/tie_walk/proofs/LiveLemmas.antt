@@ -91,14 +91,8 @@ upto-rest first last c (x ∷ set) up = elim (cases_lt c x) [
 
 pub upto-increasing : (first last c : ℕ) (set : List ℕ) → IsIncreasing first last set → IsIncreasing first c (members_upto set c)
 upto-increasing first last c [] up = tt
-upto-increasing first last c (x ∷ set) up = elim (cases_lt c x) [
-  | inr low ↦
-      subst (IsIncreasing first c) (sym (kept low)) (up.0, low, upto-increasing (x + 1) last c set up.2)
-  | inl high ↦ subst (IsIncreasing first c) (sym (upto-none x last c (x ∷ set) high (omega arith, up.1, up.2))) tt
-]
-  where
-    kept : x ≤ c → members_upto (x ∷ set) c ≡ x ∷ members_upto set c
-    kept low = rw (le-leb x c low)
+upto-increasing first last c (x ∷ set) up =
+    grind (arith, common_steps, upto-increasing (x + 1) last c set up.2, cases_lt, upto-none, le-leb)
 
 -- ---- lists that pass a test
 
@@ -139,16 +133,12 @@ module _ (m k : ℕ) (after : Option (List ℕ)) where
 
   pub ahead-here : (c d : ℕ) (set : List ℕ) → c ≤ m → d ≤ c → IsIncreasing 1 d set → length set ≤ k → k ≤ length set + (m - c)
       → AllAhead c set → is_ahead m k after d set ≡ true
-  ahead-here c d set inside low up few enough all =
-      all (λ list. bytes_eq (members_upto list d) set) (some-below c d set inside low up few enough)
+  ahead-here c d set inside low up few enough all = grind (arith, common_steps, some-below)
 
   -- what is ahead has beginnings that are
   pub ahead-beginning : (c : ℕ) (set front : List ℕ) → members_upto set c ≡ front → is_ahead m k after (c + 1) set ≡ true → is_ahead m k after c front ≡ true
   ahead-beginning c set front cut is =
-      any-weaker (λ list. bytes_eq (members_upto list (c + 1)) set) (λ list. bytes_eq (members_upto list c) front) later each is
-    where
-      each : (x : List ℕ) → bytes_eq (members_upto x (c + 1)) set ≡ true → bytes_eq (members_upto x c) front ≡ true
-      each x e = grind (arith, common_steps, bytes_eq-Decides, upto-twice)
+      grind (arith, common_steps, any-weaker, later, bytes_eq-Decides, upto-twice)
 
   module _ (bound : ℕ → List ℕ → ℕ → ℕ) (best : ℕ) where
     pub live-shut : (rest c : ℕ) (set : List ℕ) → is_open bound m k best c set ≡ false → live_below bound m k best after rest c set ≡ 0

@@ -65,8 +65,7 @@ increments-most rule k g each =
     (λ j. within (nat_le j k) (increment rule k j) (g j) (λ is. each j (leb-true j k is)))
 
 power-most : (p k j : ℕ) → 1 ≤ p → p ≤ 4 → k ≤ most_members → p ^ (k - j) ≤ largest_power j
-power-most p k j some few most =
-    omega (arith, pow-le-pow_left few (k - j), pow-le-pow_right {n = 4} (omega arith) {i = k - j} {j = most_members - j} (omega arith))
+power-most p k j some few most = grind (arith, common_steps, pow-le-pow_left, pow-le-pow_right)
 
 -- ---- the values
 

@@ -69,20 +69,7 @@ satisfaction_value-by_parts m n shares [] committee most all is = refl
 satisfaction_value-by_parts m n shares (([], voters) ∷ rows) committee most all is =
     grind (arith, common_steps, satisfaction_value-by_parts m n shares rows committee most all.1 is, sum_by-cons, get_or)
 satisfaction_value-by_parts m n shares ((x ∷ ballot, voters) ∷ rows) committee most all is =
-    let own : List ℕ = x ∷ ballot in
-    let row : Row = (x ∷ ballot, voters) in
-    let here : get_or shares (length own) 0 ≡ common_multiple n / length own =
-    ap (λ s. get_or s (length own) 0) is ∙ parts-at (common_multiple n) (length own) (omega arith) (omega (arith, length-increasing 1 m own all.0)) in
-    let product : voters * hits own committee * get_or shares (length own) 0 ≡ voters * hits own committee * (common_multiple n / length own) =
-    ap (λ k. voters * hits own committee * k) here in
-    let kept : List Row = filter (λ (r : Row). not (length r.0 == 0)) rows in
-    let whole : satisfaction_value n (row ∷ rows) committee ≡ voters * hits own committee * (common_multiple n / length own) + satisfaction_value n rows committee =
-    ap (λ b. sum_by (λ (r : Row). r.1 * hits r.0 committee * (common_multiple n / length r.0)) (cond (not b) (row ∷ kept) kept)) (ne_eqb (length own) 0 (λ e. omega (arith, e)))
-    ∙ sum_by-cons (λ (r : Row). r.1 * hits r.0 committee * (common_multiple n / length r.0)) row kept in
-    let made : sum_by (λ (r : Row). r.1 * hits r.0 committee * get_or shares (length r.0) 0) (row ∷ rows) ≡ voters * hits own committee * get_or shares (length own) 0
-    + sum_by (λ (r : Row). r.1 * hits r.0 committee * get_or shares (length r.0) 0) rows =
-    sum_by-cons (λ (r : Row). r.1 * hits r.0 committee * get_or shares (length r.0) 0) row rows in
-    omega (arith, product, made, whole, satisfaction_value-by_parts m n shares rows committee most all.1 is)
+    grind (arith, common_steps, satisfaction_value-by_parts m n shares rows committee most all.1 is, parts-at, length-increasing, ne_eqb, sum_by-cons)
 
 -- no part is more than the whole
 pub parts-bound : (n : ℕ) (shares : List ℕ) (x : ℕ) → n ≤ most_candidates → shares ≡ parts (common_multiple n) → get_or shares x 0 < 2 ^ 90

@@ -37,8 +37,7 @@ pub best-taken : (f : ℕ → ℕ → ℕ) (low : ℕ) (w : ℕ → ℕ) (p : �
 best-taken f low w p c start is = grind (arith, common_steps, filter, map, filter-next, map-push, fold-append)
 
 pub filter-left : (p : ℕ → Bool) (c : ℕ) → 1 ≤ c → p c ≡ false → filter p (range_with_len 1 (c + 1 - 1)) ≡ filter p (range_with_len 1 (c - 1))
-filter-left p c low is =
-    filter-next p c low ∙ ap (λ b. filter p (range_with_len 1 (c - 1)) ++ cond b (c ∷ []) []) is ∙ append-nil (filter p (range_with_len 1 (c - 1)))
+filter-left p c low is = grind (arith, common_steps, filter-next, append-nil)
 
 pub map-taken : {X : Type 0} (f : ℕ → X) (p : ℕ → Bool) (c : ℕ) → 1 ≤ c → p c ≡ true
     → map f (filter p (range_with_len 1 (c + 1 - 1))) ≡ map f (filter p (range_with_len 1 (c - 1))) ++ f c ∷ []
@@ -54,10 +53,7 @@ has_member-range a (suc n) c low high = elim (cases_Bool (a == c)) [
 ]
 
 at_member : (P : ℕ → Type 0) (xs : List ℕ) (c : ℕ) → AllByRecursion P xs → has_member xs c ≡ true → P c
-at_member P [] c all is = elim (true_is_not (sym is)) [ ]
-  where
-    true_is_not : true ≡ false → ⊥
-    true_is_not e = cc
+at_member P [] c all is = grind (arith, common_steps)
 at_member P (x ∷ xs) c all is = elim (or_cases (x == c) (has_member xs c) is) [
   | inl same ↦ subst_at (eqb-true x c same) all.0
   | inr later ↦ at_member P xs c all.1 later

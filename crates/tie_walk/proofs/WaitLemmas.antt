@@ -77,14 +77,7 @@ module _ (value : List ℕ → ℕ) (m k best : ℕ) where
   alive-full c d set full = ap (list_any (λ list. nat_le best (value list))) (below-full m k c set full ∙ sym (below-full m k d set full))
 
   pub alive-whole : (c : ℕ) (set : List ℕ) → length set ≡ k → is_alive value m k best c set ≡ true → best ≤ value set
-  alive-whole c set full is = elim (cases_Bool (nat_le best (value set))) [
-    | inl high ↦ leb-true best (value set) high
-    | inr low ↦
-        absurd (no (sym is ∙ ap (list_any (λ list. nat_le best (value list))) (below-full m k c set full) ∙ ap (λ b. b || false) low))
-  ]
-    where
-      no : true ≡ false → ⊥
-      no e = absurd (cc)
+  alive-whole c set full is = grind (arith, common_steps, cases_Bool, leb-true, below-full)
 
   -- ---- how many bounds are asked for until a winner is found
 
@@ -110,32 +103,14 @@ module _ (value : List ℕ → ℕ) (m k best : ℕ) where
   -- past a prefix with nothing below
   pub wait-past : (prefix : Prefix) (next : Option Prefix) → IsPast prefix next → is_alive value m k best prefix.c prefix.set ≡ false
       → waits_from value m k best (Some prefix) ≡ 1 + waits_from value m k best next
-  wait-past prefix next is dead =
-      omega (arith, waits-past prefix next is, waits-dead (waits_after value m k best 0 [] prefix.set) prefix.c prefix.set dead)
+  wait-past prefix next is dead = grind (arith, common_steps, waits-past, waits-dead)
 
   -- down: where nothing is below the first child, something is below the second
   wait-child : (c : ℕ) (set : List ℕ) → c < m → length set < k → is_alive value m k best c set ≡ true
       → 1 + waits_at value m k best (waits_after value m k best 0 [] (set ++ (c + 1) ∷ [])) (c + 1) (set ++ (c + 1) ∷ [])
       ≤ waits_at value m k best (waits_after value m k best 0 [] set) c set
   wait-child c set more few alive =
-      let child : List ℕ = set ++ (c + 1) ∷ [] in
-      let above = waits_after value m k best 0 [] set in
-      elim (cases_Bool (is_alive value m k best (c + 1) child)) [
-        | inl first ↦
-            omega (arith, more, waits-alive above c set alive, waits-alive (waits_after value m k best 0 [] child) (c + 1) child first)
-        | inr dead ↦
-            let both : is_alive value m k best c set ≡ (is_alive value m k best (c + 1) child || is_alive value m k best (c + 1) set) =
-            ap (list_any (λ list. nat_le best (value list))) (below-split m k c set more few)
-            ∙ list_any-append (λ list. nat_le best (value list)) (committees_below m k (c + 1) child) (committees_below m k (c + 1) set) in
-            let second : is_alive value m k best (c + 1) set ≡ true = sym (ap (λ b. b || is_alive value m k best (c + 1) set) dead) ∙ sym both ∙ alive in
-            omega (
-              arith,
-              waits-alive above c set alive,
-              waits-dead (waits_after value m k best 0 [] child) (c + 1) child dead,
-              waits_after-push 0 [] set (c + 1),
-              waits-alive above (c + 1) set second,
-            )
-      ]
+      grind (arith, common_steps, cases_Bool, waits-alive, below-split, list_any-append, waits-dead, waits_after-push)
 
   pub wait-first : (prefix next : Prefix) → prefix.c < m → IsPlace m k (Some prefix) → next.c ≡ prefix.c + 1
       → (length prefix.set < k → next.set ≡ prefix.set ++ (prefix.c + 1) ∷ []) → (length prefix.set ≡ k → next.set ≡ prefix.set)

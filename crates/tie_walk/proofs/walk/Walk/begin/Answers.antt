@@ -1,3 +1,4 @@
+use Rattle.std.proofs.lemmas.Grind.{common_steps}
 use Rattle.std.proofs.Common.{◌≡◌, ◌+◌, ◌-◌, ◌∙◌, None, Some, [], ◌++◌, sym, ap, subst, arith, option_to_list}
 use Rattle.tie_walk.specs.Ceilings.{live_count}
 use Rattle.tie_walk.specs.Steps.Walks.{committees_from, those_reaching, open_below, open_from, Aim, IsBegun, aim, progress}
@@ -7,9 +8,7 @@ use Rattle.tie_walk.proofs.LiveLemmas.{all-live}
 use Rattle.tie_walk.proofs.walk.Walk.begin.Goals as goal
 
 pub visit-requires-clause-place : goal.visit-requires-clause-place
-visit-requires-clause-place g c =
-    let a = aim c.new-walk.result in
-    (at_root a.m a.k c.root.result c.root.ensures.c c.root.ensures.set).1
+visit-requires-clause-place g c = grind (arith, common_steps, at_root)
 
 pub visit-requires-clause-asks : goal.visit-requires-clause-asks
 visit-requires-clause-asks g c =
