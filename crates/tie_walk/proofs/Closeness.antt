@@ -1,6 +1,6 @@
 -- Minimax: distances only grow as candidates are decided on.
 use Rattle.std.proofs.lemmas.Grind.{common_steps}
-use Rattle.std.proofs.Common.{◌≡◌, ℕ, ◌+◌, ◌-◌, ◌<◌, ◌≤◌, ◌==◌, ◌||◌, ◌∙◌, Bool, false, cond, not, List, [], ◌∷◌, ◌++◌, refl, sym, ap, arith, inl, inr, length, count_by, fold, max, take, get_or, slice_get, Some}
+use Rattle.std.proofs.Common.{◌≡◌, ℕ, ◌+◌, ◌-◌, ◌<◌, ◌≤◌, ◌∙◌, Bool, not, List, [], ◌∷◌, ◌++◌, refl, sym, ap, arith, length, count_by, fold, max, take, get_or, slice_get, Some}
 use Rattle.std.specs.Prelude.{nat_le}
 use Rattle.std.specs.List.{AllByRecursion}
 use Rattle.std.specs.Ordering.{ord_max, nat_cmp}

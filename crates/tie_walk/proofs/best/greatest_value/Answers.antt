@@ -1,7 +1,5 @@
 use Rattle.std.proofs.lemmas.Grind.{common_steps}
-use Rattle.std.proofs.Common.{◌∙◌, [], Some, sym, ap, subst, arith}
-use Rattle.tie_walk.specs.Ceilings.{IsBound}
-use Rattle.tie_walk.specs.Steps.Walks.{committees_from}
+use Rattle.std.proofs.Common.{arith}
 use Rattle.tie_walk.proofs.BestLemmas.{greatest-good, greatest-found, best-reached}
 use Rattle.tie_walk.proofs.WalkLemmas.{at_root}
 use Rattle.tie_walk.proofs.WinnersLemmas.{greatest, greatest-done}

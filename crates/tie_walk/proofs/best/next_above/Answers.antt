@@ -1,7 +1,5 @@
 use Rattle.std.proofs.lemmas.Grind.{common_steps}
-use Rattle.std.proofs.Common.{◌≡◌, ◌+◌, ◌∙◌, Some, ◌∷◌, ◌++◌, ap, arith, subst, option_to_list}
-use Rattle.ballot_base.specs.Lists.{IsIncreasing}
-use Rattle.tie_walk.specs.Steps.Walks.{committees_from, those_reaching, Aim, IsStride, progress}
+use Rattle.std.proofs.Common.{arith}
 use Rattle.tie_walk.proofs.BestLemmas.{from-candidates, first-reaching}
 use Rattle.tie_walk.proofs.WaitLemmas.{work-most}
 use Rattle.tie_walk.proofs.best.next_above.Goals as goal

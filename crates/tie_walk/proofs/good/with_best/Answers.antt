@@ -1,6 +1,5 @@
 use Rattle.std.proofs.lemmas.Grind.{common_steps}
-use Rattle.std.proofs.Common.{◌≡◌, ◌+◌, ◌≤◌, ◌∙◌, sym, subst, arith, length}
-use Rattle.ballot_base.specs.Lists.{IsIncreasing}
+use Rattle.std.proofs.Common.{◌+◌, ◌≤◌, ◌∙◌, sym, subst, arith}
 use Rattle.ballot_base.proofs.Increasing.{IsIncreasing-with_member}
 use Rattle.tie_walk.proofs.BestLemmas.{IsOneMore, one-more-member, one-more-kept, one-more-found, one-more-done}
 use Rattle.tie_walk.proofs.good.with_best.Goals as goal

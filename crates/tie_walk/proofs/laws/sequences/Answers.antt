@@ -1,6 +1,5 @@
 use Rattle.std.proofs.lemmas.Grind.{common_steps}
-use Rattle.std.proofs.Common.{[], arith}
-use Rattle.std.specs.List.{range_with_len}
+use Rattle.std.proofs.Common.{arith}
 use Rattle.tie_walk.proofs.SequenceLaws.{grown-each, each-grown, shrunk-each, each-shrunk}
 use Rattle.tie_walk.proofs.laws.sequences.Goals as goal
 

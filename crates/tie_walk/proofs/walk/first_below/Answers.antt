@@ -1,6 +1,5 @@
 use Rattle.std.proofs.lemmas.Grind.{common_steps}
-use Rattle.std.proofs.Common.{◌+◌, ◌++◌, [], ◌∷◌, ap, sym, subst, arith, length, length-append}
-use Rattle.ballot_base.specs.Lists.{IsIncreasing}
+use Rattle.std.proofs.Common.{arith, length-append}
 use Rattle.ballot_base.proofs.Increasing.{IsIncreasing-push, IsIncreasing-higher}
 use Rattle.tie_walk.proofs.walk.first_below.Goals as goal
 

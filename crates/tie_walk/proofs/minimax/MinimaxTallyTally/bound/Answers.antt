@@ -1,7 +1,5 @@
 use Rattle.std.proofs.lemmas.Grind.{common_steps}
-use Rattle.std.proofs.Common.{◌≡◌, sym, subst, arith}
-use Rattle.tie_walk.specs.Ceilings.{IsBound, closeness_upto}
-use Rattle.tie_walk.specs.Values.{closeness}
+use Rattle.std.proofs.Common.{arith}
 use Rattle.tie_walk.proofs.Closeness.{closeness-bounds}
 use Rattle.tie_walk.proofs.minimax.MinimaxTallyTally.bound.Goals as goal
 

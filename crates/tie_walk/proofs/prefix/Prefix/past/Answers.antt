@@ -1,7 +1,5 @@
 use Rattle.std.proofs.lemmas.Grind.{common_steps}
-use Rattle.std.proofs.Common.{◌≡◌, ◌∙◌, true, false, [], ◌∷◌, ◌++◌, sym, ap, subst, arith}
-use Rattle.ballot_base.specs.Lists.{IsIncreasing}
-use Rattle.ballot_base.specs.CandSet.{has_member}
+use Rattle.std.proofs.Common.{arith}
 use Rattle.tie_walk.proofs.WalkLemmas.{without-last, not-last, without-increasing, none_below}
 use Rattle.tie_walk.proofs.prefix.Prefix.past.Goals as goal
 

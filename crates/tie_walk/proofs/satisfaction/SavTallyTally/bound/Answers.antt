@@ -3,7 +3,7 @@ use Rattle.std.proofs.Common.{◌≡◌, ℕ, ◌+◌, ◌-◌, ◌^◌, ◌≤�
 use Rattle.ballot_base.specs.Ballots.{Election}
 use Rattle.ballot_base.specs.CommonMultiple.{common_multiple}
 use Rattle.ballot_base.proofs.Increasing.{IsIncreasing-higher}
-use Rattle.tie_walk.specs.Ceilings.{IsBound, ceiling, greatest_sum}
+use Rattle.tie_walk.specs.Ceilings.{IsBound}
 use Rattle.tie_walk.specs.Steps.Tables.{parts}
 use Rattle.tie_walk.specs.Values.{satisfaction_value}
 use Rattle.tie_walk.proofs.Gains.{score-most, satisfaction-ceiling, satisfaction-fits}

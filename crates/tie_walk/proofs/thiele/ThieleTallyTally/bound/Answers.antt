@@ -1,13 +1,10 @@
 use Rattle.std.proofs.lemmas.Grind.{common_steps}
-use Rattle.std.proofs.Common.{◌≡◌, ℕ, ◌+◌, ◌-◌, ◌^◌, ◌≤◌, ◌<◌, ◌∙◌, ap, sym, subst, arith, get_or}
-use Rattle.ballot_base.specs.Ballots.{Election}
+use Rattle.std.proofs.Common.{◌≤◌, sym, subst, arith}
 use Rattle.ballot_base.specs.Limits.{most_members}
-use Rattle.ballot_base.specs.CandSet.{has_member}
 use Rattle.ballot_base.specs.Increments.{increments}
 use Rattle.ballot_base.proofs.Increasing.{IsIncreasing-higher}
-use Rattle.tie_walk.specs.Ceilings.{IsBound, ceiling, greatest_sum}
-use Rattle.tie_walk.specs.Sequences.{gain}
-use Rattle.tie_walk.specs.Values.{thiele_value, Thiele, thiele_of}
+use Rattle.tie_walk.specs.Ceilings.{IsBound}
+use Rattle.tie_walk.specs.Values.{thiele_value, Thiele}
 use Rattle.tie_walk.proofs.GreatestSums.{ceiling-whole, whole-bounds}
 use Rattle.tie_walk.proofs.Gains.{thiele-ceiling, thiele-fits}
 use Rattle.tie_walk.proofs.StepLemmas.{has_member-range}

@@ -5,7 +5,6 @@ use Rattle.ballot_base.specs.Limits.{most_members}
 use Rattle.ballot_base.specs.Ballots.{Row, IsElection, hits}
 use Rattle.ballot_base.specs.Increments.{increments}
 use Rattle.ballot_base.proofs.Turns.{row_of_turn, all_passed}
-use Rattle.tie_walk.specs.Steps.Tables.{prefix_sums}
 use Rattle.tie_walk.specs.Values.{Thiele}
 use Rattle.tie_walk.proofs.RowSums.{length-common, rows-bound, rows-more}
 use Rattle.tie_walk.proofs.TableLemmas.{prefix_sums-at, sum-take-le, increments_sum-most}

@@ -1,11 +1,10 @@
-use Rattle.std.proofs.Common.{◌≡◌, ◌+◌, ◌-◌, ◌<◌, ◌≤◌, ◌∙◌, true, false, cond, ℕ, [], Some, sym, ap, subst, arith}
-use Rattle.ballot_base.specs.Lists.{IsIncreasing}
+use Rattle.std.proofs.Common.{◌≡◌, ◌-◌, ◌<◌, ◌≤◌, ◌∙◌, cond, ℕ, [], Some, sym, ap, subst, arith}
 use Rattle.ballot_base.specs.CandSet.{members_upto}
 use Rattle.tie_walk.specs.Ceilings.{is_open}
 use Rattle.tie_walk.specs.Steps.Walks.{committees_below, IsPlace, Aim, those_reaching}
 use Rattle.tie_walk.proofs.WalkLemmas.{prefix_at, place-past, after-start}
 use Rattle.tie_walk.proofs.CountLemmas.{ahead-whole, begun, down-all}
-use Rattle.tie_walk.proofs.LiveLemmas.{upto-all, upto-none, upto-increasing, place-upto, left-early, live-past, live-shut, down-step}
+use Rattle.tie_walk.proofs.LiveLemmas.{upto-all, upto-none, place-upto, left-early, live-past, live-shut, down-step}
 use Rattle.tie_walk.proofs.walk.Walk.begin_after.Goals as goal
 use Rattle.tie_walk.proofs.walk.Walk.begin_after.Goals.{After-new-walk, After-upto-set, After-enter}
 

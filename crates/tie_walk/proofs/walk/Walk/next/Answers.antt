@@ -1,7 +1,5 @@
 use Rattle.std.proofs.lemmas.Grind.{common_steps}
-use Rattle.std.proofs.Common.{◌+◌, ◌≤◌, Some, ap, subst, arith}
-use Rattle.tie_walk.specs.Ceilings.{IsExactAtBest}
-use Rattle.tie_walk.specs.Steps.Walks.{waits_from, Aim, IsWait, aim, progress}
+use Rattle.std.proofs.Common.{arith}
 use Rattle.tie_walk.proofs.WaitLemmas.{waits-most}
 use Rattle.tie_walk.proofs.walk.Walk.next.Goals as goal
 

@@ -1,12 +1,11 @@
-use Rattle.std.proofs.Common.{◌≡◌, ℕ, ◌+◌, ◌≤◌, ◌∙◌, Bool, true, false, cond, List, [], ◌∷◌, ◌++◌, Option, Some, refl, sym, ap, arith, length}
+use Rattle.std.proofs.Common.{◌≡◌, ℕ, ◌+◌, ◌≤◌, Bool, true, false, cond, List, [], ◌∷◌, Option, refl, arith}
 use Rattle.std.proofs.lemmas.Grind.{common_steps}
 use Rattle.std.specs.Bool.{then_some}
 use Rattle.std.specs.Prelude.{option_to_list}
-use Rattle.std.specs.Prelude.{nat_le}
 use Rattle.std.proofs.lemmas.Bool.{leb-false}
 use Rattle.tie_walk.specs.declared.prefix.Prefix.{Prefix}
 use Rattle.tie_walk.specs.declared.walk.Counts.{Counts}
-use Rattle.tie_walk.specs.Steps.Walks.{Progress, IsWait, committees_from, those_reaching, waits_from}
+use Rattle.tie_walk.specs.Steps.Walks.{Progress, IsWait, waits_from}
 use Rattle.tie_walk.proofs.WalkLemmas.{place-past, work-past}
 use Rattle.tie_walk.proofs.OpenLemmas.{reaching-past, reaching-whole, from-first, open-sizes, passed, entered-first, entered-last}
 use Rattle.tie_walk.proofs.WaitLemmas.{alive-none, alive-open, alive-whole, waits-some, wait-past, wait-first}
