@@ -47,12 +47,8 @@ module _ (may : List ℕ → ℕ → Bool) (change : List ℕ → ℕ → List �
   length-push (d ∷ list) c = omega (arith, length-push list c)
 
   pub reached_more : (start : List ℕ) (i : ℕ) (old : List ℕ) (c : ℕ) → IsReached may change start i old → may old c ≡ true → IsReached may change start (i + 1) (change old c)
-  reached_more start i old c r allowed = record {
-    list = r.list ++ c ∷ [];
-    long = omega (arith, length-push r.list c, r.long);
-    made = follows-push start r.list c r.made (ap (λ s. may s c) r.ends ∙ allowed);
-    ends = fold-push start r.list c ∙ ap (λ s. change s c) r.ends;
-  }
+  reached_more start i old c r allowed =
+      grind (arith, common_steps, length-push r.list c, follows-push, fold-push start r.list c)
 
   -- one choice before a change
   change_before : (start : List ℕ) (c i : ℕ) (set : List ℕ) → may start c ≡ true → IsChange (change start c) i set → IsChange start (i + 1) set

@@ -1,6 +1,6 @@
 -- What a set gains by a candidate: over the rows, and as the difference of two values.
 use Rattle.std.proofs.lemmas.Grind.{common_steps}
-use Rattle.std.proofs.Common.{◌≡◌, ℕ, zero, suc, ◌+◌, ◌-◌, ◌*◌, ◌<◌, ◌≤◌, ◌^◌, ◌∙◌, Bool, true, false, cond, List, [], ◌∷◌, Some, refl, sym, ap, arith, length, take, get_or, slice_get, sum, sum_by, add-one}
+use Rattle.std.proofs.Common.{◌≡◌, ℕ, zero, suc, ◌+◌, ◌-◌, ◌*◌, ◌<◌, ◌≤◌, ◌^◌, ◌∙◌, Bool, true, false, cond, List, [], ◌∷◌, Some, refl, sym, ap, arith, length, take, get_or, slice_get, sum, sum_by, add-one, rules}
 use Rattle.std.proofs.lemmas.Bool.{cases_eq, eq-eqb, ne_eqb}
 use Rattle.std.proofs.lemmas.List.Sums.{sum_by-cons, count_by-le-length}
 use Rattle.std.proofs.Math.Nat.{mul-le-mul_right, div-mul-le_self}
@@ -132,11 +132,8 @@ module _ (shares : List ℕ) (x : ℕ) (small : (n : ℕ) → get_or shares n 0 
 
   pub score-more : (rows : List Row) (i : ℕ) (row : Row) → slice_get rows i ≡ Some row
       → sum_by (λ (r : Row). r.1 * given shares x r) (take (i + 1) rows) ≡ sum_by (λ (r : Row). r.1 * given shares x r) (take i rows) + cond (has_member row.0 x) (row.1 * get_or shares (length row.0) 0) 0
-  score-more rows i row found = omega (arith, rows-more (given shares x) rows i row found, product-of-part (has_member row.0 x) row.1 (get_or shares (length row.0) 0))
-    where
-      product-of-part : (b : Bool) (n w : ℕ) → n * cond b w 0 ≡ cond b (n * w) 0
-      product-of-part true n w = refl
-      product-of-part false n w = omega arith
+  score-more rows i row found =
+      grind (arith, common_steps, rows-more (given shares x) rows i row found, given shares x)
 
   -- the sum so far and what the next row's voters give
   pub score-fits : (e : Election) (i : ℕ) (row : Row) → IsElection e → slice_get e.rows i ≡ Some row

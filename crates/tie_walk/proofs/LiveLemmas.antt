@@ -1,6 +1,7 @@
 -- Live prefixes: those still to be entered after a start, and on the way down to it.
 use Rattle.std.proofs.lemmas.Grind.{common_steps}
 use Rattle.std.proofs.Common.{◌≡◌, ℕ, zero, suc, ◌+◌, ◌-◌, ◌<◌, ◌≤◌, ◌||◌, ◌∙◌, ◌⊎◌, Bool, true, false, List, [], ◌∷◌, ◌++◌, Option, None, Some, refl, sym, ap, subst, arith, inl, inr, length, length-append, filter, map, append_assoc, append-nil}
+use Rattle.std.specs.Prelude.{nat_le}
 use Rattle.std.specs.List.{AllByRecursion, list_any}
 use Rattle.std.specs.Str.{bytes_eq}
 use Rattle.std.proofs.lemmas.Bool.{cases_Bool, cases_lt, cases_eq, le-leb, lt-leb, or_left, or_right, false≢true}
@@ -37,44 +38,6 @@ pub upto-twice : (c : ℕ) (set : List ℕ) → members_upto (members_upto set (
 upto-twice c [] = refl
 upto-twice c (x ∷ set) = grind (arith, common_steps, upto-twice c set, cases_lt, lt-leb, le-leb)
 
--- one candidate more is a member, or not
-pub upto-next : (first last c : ℕ) (set : List ℕ) → IsIncreasing first last set
-    → ((rest : List ℕ) × ((set ≡ members_upto set c ++ (c + 1) ∷ rest) × (members_upto set (c + 1) ≡ members_upto set c ++ (c + 1) ∷ []))) ⊎ (members_upto set (c + 1) ≡ members_upto set c)
-upto-next first last c [] up = inr refl
-upto-next first last c (x ∷ set) up = elim (cases_lt c x) [
-  | inr low ↦
-      let here : members_upto (x ∷ set) c ≡ x ∷ members_upto set c = rw (le-leb x c low) in
-      let next : members_upto (x ∷ set) (c + 1) ≡ x ∷ members_upto set (c + 1) = rw (le-leb x (c + 1) (omega arith)) in
-      elim (upto-next (x + 1) last c set up.2) [
-        | inl is ↦
-            inl (
-              is.0,
-              (
-                ap (λ l. x ∷ l) is.1.0 ∙ sym (ap (λ l. l ++ (c + 1) ∷ is.0) here),
-                next ∙ ap (λ l. x ∷ l) is.1.1 ∙ sym (ap (λ l. l ++ (c + 1) ∷ []) here),
-              ),
-            )
-        | inr same ↦ inr (next ∙ ap (λ l. x ∷ l) same ∙ sym here)
-      ]
-  | inl high ↦
-      let rest : members_upto set c ≡ [] = upto-none (x + 1) last c set (omega arith) up.2 in
-      let here : members_upto (x ∷ set) c ≡ [] = rw (lt-leb x c high) rest in
-      elim (cases_eq x (c + 1)) [
-        | inl is ↦
-            let after : members_upto set (c + 1) ≡ [] = upto-none (x + 1) last (c + 1) set (omega arith) up.2 in
-            let next : members_upto (x ∷ set) (c + 1) ≡ x ∷ [] = rw (le-leb x (c + 1) (omega arith)) (ap (λ l. x ∷ l) after) in
-            inl (
-              set,
-              (
-                ap (λ n. n ∷ set) is ∙ sym (ap (λ l. l ++ (c + 1) ∷ set) here),
-                next ∙ ap (λ n. n ∷ []) is ∙ sym (ap (λ l. l ++ (c + 1) ∷ []) here),
-              ),
-            )
-        | inr other ↦
-            inr (upto-none x last (c + 1) (x ∷ set) (omega (arith, high, other)) (omega arith, up.1, up.2) ∙ sym here)
-      ]
-]
-
 -- a list is made of its members up to c and of larger ones
 pub upto-rest : (first last c : ℕ) (set : List ℕ) → IsIncreasing first last set
     → (rest : List ℕ) × ((set ≡ members_upto set c ++ rest) × IsIncreasing (c + 1) last rest)
@@ -93,6 +56,23 @@ pub upto-increasing : (first last c : ℕ) (set : List ℕ) → IsIncreasing fir
 upto-increasing first last c [] up = tt
 upto-increasing first last c (x ∷ set) up =
     grind (arith, common_steps, upto-increasing (x + 1) last c set up.2, cases_lt, upto-none, le-leb)
+
+-- one candidate more is a member, or not
+pub upto-next : (first last c : ℕ) (set : List ℕ) → IsIncreasing first last set
+    → ((rest : List ℕ) × ((set ≡ members_upto set c ++ (c + 1) ∷ rest) × (members_upto set (c + 1) ≡ members_upto set c ++ (c + 1) ∷ []))) ⊎ (members_upto set (c + 1) ≡ members_upto set c)
+upto-next first last c set up =
+    let parts = upto-rest first last c set up in
+    by parts.0 parts.1.0 parts.1.1
+  where
+    front : (rest : List ℕ) → set ≡ members_upto set c ++ rest → members_upto set (c + 1) ≡ members_upto set c ++ members_upto rest (c + 1)
+    front rest is =
+        ap (λ l. members_upto l (c + 1)) is ∙ filter-append (λ n. nat_le n (c + 1)) (members_upto set c) rest
+        ∙ ap (λ l. l ++ members_upto rest (c + 1)) (upto-all first (c + 1) (members_upto set c) (IsIncreasing-higher first c (c + 1) (members_upto set c) (omega arith) (upto-increasing first last c set up)))
+
+    by : (rest : List ℕ) → set ≡ members_upto set c ++ rest → IsIncreasing (c + 1) last rest
+        → ((more : List ℕ) × ((set ≡ members_upto set c ++ (c + 1) ∷ more) × (members_upto set (c + 1) ≡ members_upto set c ++ (c + 1) ∷ []))) ⊎ (members_upto set (c + 1) ≡ members_upto set c)
+    by [] is above = inr (front [] is ∙ append-nil (members_upto set c))
+    by (y ∷ rest) is above = grind (arith, common_steps, front (y ∷ rest) is, cases_eq, upto-none, le-leb, lt-leb, append-nil)
 
 -- ---- lists that pass a test
 
@@ -254,9 +234,7 @@ module _ (m k : ℕ) where
       ∙ ap (λ ls. ls ++ those_reaching value best (committees_after m k [] set)) gone)
 
   pub upto-few : (c : ℕ) (start : List ℕ) → IsIncreasing 1 m start → length start ≡ k → length (members_upto start c) ≤ k
-  upto-few c start up size =
-      let parts = upto-rest 1 m c start up in
-      omega (arith, size, ap length parts.1.0, length-append (members_upto start c) parts.0)
+  upto-few c start up size = grind (arith, common_steps, upto-rest 1 m c start up, length-append)
 
   -- each beginning of a start is a place
   pub place-upto : (c : ℕ) (start set : List ℕ) → c ≤ m → IsIncreasing 1 m start → length start ≡ k → set ≡ members_upto start c → IsPlace m k (Some (prefix_at c set))
@@ -269,13 +247,7 @@ module _ (m k : ℕ) where
       ≤ live_below bound m k best (Some start) (m - c) c (members_upto start c) + open_after bound m k best [] (members_upto start c)
   down-step bound best c start more up size is =
       let set = members_upto start c in
-      let below = upto-increasing 1 m c start up in
-      elim (upto-next 1 m c start up) [
-        | inl next ↦
-            let all = ahead-start start set next.0 (c + 1) up size next.1.0 in
-            rw next.1.1 (omega (arith, down-with m k (Some start) bound best c set more below is all, open_after-push bound m k best [] set (c + 1)))
-        | inr same ↦ rw same (omega (arith, down-without m k (Some start) bound best c set more below is))
-      ]
+      grind (arith, common_steps, upto-increasing 1 m c start up, upto-next 1 m c start up, ahead-start, down-with, open_after-push, down-without)
 
 -- the committees from the first place on that reach the greatest value are the winners after the start
 pub winners-left : (value : List ℕ → ℕ) (n m k best : ℕ) (sets : List (List ℕ)) (start after : Option (List ℕ)) → n ≡ m → best ≡ best_value value n k

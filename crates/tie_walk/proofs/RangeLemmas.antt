@@ -33,8 +33,7 @@ use Rattle.tie_walk.proofs.TightLemmas.{hits-most, satisfaction-tight}
 -- a part of a larger whole is no smaller
 part-le : (x y j : ℕ) → x ≤ y → x / j ≤ y / j
 part-le x y zero less = omega arith
-part-le x y (suc j) less =
-    (le-div_iff_mul-le {k = suc j} {x = x / suc j} {y = y} (omega arith)).1 (omega (arith, div-mul-le_self x (suc j), less))
+part-le x y (suc j) less = grind (arith, common_steps, le-div_iff_mul-le, div-mul-le_self x (suc j))
 
 abbrev largest_part : ℕ → ℕ
 largest_part j = common_multiple most_members / j
@@ -124,9 +123,7 @@ satisfaction e committee valid =
 take-most : (w : List ℕ) (most x : ℕ) → ((i : ℕ) → get_or w i 0 ≤ most) → sum (take x w) ≤ x * most
 take-most w most zero each = omega arith
 take-most w most (suc x) each =
-    let product : suc x * most ≡ x * most + most = omega arith in
-    let step : sum (take (suc x) w) ≡ sum (take x w) + get_or w x 0 = ap (λ n. sum (take n w)) (sym (add-one x)) ∙ sum-take_more w x in
-    omega (arith, product, step, each x, take-most w most x each)
+    grind (arith, common_steps, take-most w most x each, add-one x, sum-take_more w x)
 
 -- a voter has no more hits than the set has members
 set-most : (w : List ℕ) (e : Election) (c most : ℕ) (set : List ℕ) → IsElection e → IsIncreasing 1 c set → ((i : ℕ) → get_or w i 0 ≤ most)

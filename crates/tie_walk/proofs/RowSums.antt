@@ -33,9 +33,7 @@ module _ (worth : Row → ℕ) where
   pub rows-more : (rows : List Row) (i : ℕ) (row : Row) → slice_get rows i ≡ Some row
       → sum_by (λ (r : Row). r.1 * worth r) (take (i + 1) rows) ≡ sum_by (λ (r : Row). r.1 * worth r) (take i rows) + row.1 * worth row
   rows-more rows i row found =
-      let here : get_or rows i row ≡ row = get_or_from_slice_get rows i row row found in
-      let within : i < length rows = slice_get_within rows i row found in
-      rw here at (sum_by_more (λ (r : Row). r.1 * worth r) rows i row within)
+      grind (arith, common_steps, get_or_from_slice_get rows i row row found, slice_get_within rows i row found, sum_by_more)
 
   rows-most : (m most : ℕ) (rows : List Row) → AreBallots m rows → ((r : Row) → IsIncreasing 1 m r.0 → worth r ≤ most)
       → sum_by (λ (r : Row). r.1 * worth r) rows ≤ voter_count rows * most
@@ -49,8 +47,7 @@ module _ (worth : Row → ℕ) where
   pub all-most : (e : Election) (most : ℕ) → IsElection e → ((r : Row) → IsIncreasing 1 e.m r.0 → worth r ≤ most)
       → sum_by (λ (r : Row). r.1 * worth r) e.rows ≤ most_voters * most
   all-most e most valid each =
-      let product : voter_count e.rows * most ≤ most_voters * most = mul-le-mul {m₁ = most} valid.voters (omega arith) in
-      omega (arith, product, rows-most e.m most e.rows valid.ballots each)
+      grind (arith, common_steps, mul-le-mul, rows-most e.m most e.rows valid.ballots each)
 
   -- a part of what was given so far, and what the next row's voters give
   pub rows-bound : (part : Row → ℕ) → ((r : Row) → part r ≤ worth r) → (e : Election) (most i : ℕ) (row : Row) → IsElection e → ((r : Row) → IsIncreasing 1 e.m r.0 → worth r ≤ most)

@@ -121,6 +121,4 @@ after-fits c m left numbers are fits = omega (arith, fits, ap length are, length
 
 -- sums of amounts fit
 pub sum-fits : (worth : ℕ → ℕ) (c m left : ℕ) → ((n : ℕ) → worth n < 2 ^ 122) → left ≤ 64 → greatest_sum worth (c + 1) m left < 2 ^ 128
-sum-fits worth c m left small few =
-    let product : left * (2 ^ 122 - 1) ≤ 64 * (2 ^ 122 - 1) = mul-le-mul_right (2 ^ 122 - 1) few in
-    omega (arith, product, sum-most worth c m left (2 ^ 122 - 1) (λ n. omega (arith, small n)))
+sum-fits worth c m left small few = grind (arith, common_steps, mul-le-mul_right (2 ^ 122 - 1) few, sum-most)

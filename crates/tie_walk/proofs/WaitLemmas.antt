@@ -20,17 +20,7 @@ use Rattle.tie_walk.proofs.WalkLemmas.{below-split, below-full}
 powers-most : (m first c : ℕ) (set : List ℕ) → c ≤ m → IsIncreasing first c set → sum_by (λ n. 3 ^ (m - n)) set ≤ 3 ^ (m + 1 - first)
 powers-most m first c [] inside up = omega arith
 powers-most m first c (x ∷ set) inside up =
-    let here : m + 1 - (x + 1) ≡ m - x = omega arith in
-    let next : m + 1 - x ≡ suc (m - x) = omega (arith, inside, up.1) in
-    omega (
-      arith,
-      sum_by-cons (λ n. 3 ^ (m - n)) x set,
-      powers-most m (x + 1) c set inside up.2,
-      ap (λ n. 3 ^ n) here,
-      ap (λ n. 3 ^ n) next,
-      pow-suc 3 (m - x),
-      pow-le-pow_right {n = 3} (omega arith) {i = m + 1 - x} {j = m + 1 - first} (omega (arith, up.0)),
-    )
+    grind (arith, common_steps, powers-most m (x + 1) c set inside up.2, sum_by-cons, pow-suc 3 (m - x), pow-le-pow_right)
 
 all_powers : 2 * 3 ^ most_candidates < 2 ^ 126
 all_powers = lit< tt

@@ -50,16 +50,7 @@ overflow_mul-given g c =
 pub add-requires : goal.add-requires
 add-requires g c =
     let at = goal.at.add-requires g c in
-    let t : Thiele = c.args.self.now in
-    record {
-      fits = λ n. omega (
-        arith,
-        given g at.After-weight,
-        c.loop-ballot.invariant n,
-        part-most (has_member c.args.others n) (partial Grow (weights_of t) c.args.set n (take (length c.loop-ballot.yielded) t.election.rows)),
-        fits g at.In-Some n,
-      );
-    }
+    record { fits = λ n. grind (arith, common_steps, given g at.After-weight, fits g at.In-Some n, c.loop-ballot.invariant n, part-most) }
 
 pub loop-ballot-preserved-then-given-gt0 : goal.loop-ballot-preserved-then-given-gt0
 loop-ballot-preserved-then-given-gt0 g c n =
