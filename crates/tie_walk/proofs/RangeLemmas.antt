@@ -22,10 +22,10 @@ use Rattle.tie_walk.specs.Ceilings.{ceiling, gain_at, greatest_sum}
 use Rattle.tie_walk.specs.Sequences.{gain}
 use Rattle.tie_walk.specs.Values.{thiele_value, satisfaction_value}
 use Rattle.tie_walk.specs.Steps.Tables.{parts}
-use Rattle.tie_walk.proofs.Gains.{gain-most, satisfaction-most, thiele-gain}
+use Rattle.tie_walk.proofs.Gains.{gain-most, satisfaction-most, thiele-gain, thiele-most}
 use Rattle.tie_walk.proofs.GreatestSums.{best_of-most, greatest_sum-same}
 use Rattle.tie_walk.proofs.RowSums.{all-most, satisfaction_value-by_parts}
-use Rattle.tie_walk.proofs.TableLemmas.{parts-at, parts-first, sum-take_more}
+use Rattle.tie_walk.proofs.TableLemmas.{sum-take-le, sum-take_more}
 use Rattle.tie_walk.proofs.TightLemmas.{hits-most, satisfaction-tight}
 
 -- ---- the sum of all increments
@@ -68,55 +68,25 @@ power-most p k j some few most = grind (arith, common_steps, pow-le-pow_left, po
 
 -- ---- the values
 
-thiele-most : (weights : List ℕ) (e : Election) (committee : List ℕ) → IsElection e
-    → thiele_value weights e.rows committee ≤ most_voters * sum weights
-thiele-most weights e committee valid =
-    all-most (λ (r : Row). sum (take (hits r.0 committee) weights)) e (sum weights) valid
-    (λ r h. sum_by-take-le (λ (n : ℕ). n) weights (hits r.0 committee))
-
 pub proportional : (e : Election) (k : ℕ) (committee : List ℕ) → IsElection e → k ≤ most_members
     → thiele_value (increments Pav k) e.rows committee < 2 ^ 87
 proportional e k committee valid most =
     let all : sum (increments Pav k) ≤ sum (map largest_part (range_with_len 1 most_members)) =
     increments-most Pav k largest_part (λ j h. part-le (common_multiple k) (common_multiple most_members) j (common_multiple_most k most_members most)) in
-    omega (arith, thiele-most (increments Pav k) e committee valid, all, all_parts)
+    omega (arith, thiele-most e (increments Pav k) committee (sum (increments Pav k)) valid (sum-take-le (increments Pav k)), all, all_parts)
 
 geometric-by : (rule : ThieleRule) (e : Election) (k : ℕ) (committee : List ℕ) → IsElection e
     → ((j : ℕ) → j ≤ k → increment rule k j ≤ largest_power j) → thiele_value (increments rule k) e.rows committee < 2 ^ 114
 geometric-by rule e k committee valid each =
-    omega (arith, thiele-most (increments rule k) e committee valid, increments-most rule k largest_power each, all_powers)
+    omega (arith, thiele-most e (increments rule k) committee (sum (increments rule k)) valid (sum-take-le (increments rule k)), increments-most rule k largest_power each, all_powers)
 
 pub geometric : (e : Election) (k : ℕ) (committee : List ℕ) → IsElection e → k ≤ most_members
     → (thiele_value (increments Geom2 k) e.rows committee < 2 ^ 114) × (thiele_value (increments Geom3 k) e.rows committee < 2 ^ 114)
     × (thiele_value (increments Geom4 k) e.rows committee < 2 ^ 114)
 geometric e k committee valid most = grind (arith, common_steps, geometric-by, power-most)
 
--- the shares of the members whom a ballot approves are no more than the whole
-shares-most : (whole n h : ℕ) → h ≤ n → n ≤ most_candidates → h * get_or (parts whole) n 0 ≤ whole
-shares-most whole zero h few most = omega (arith, ap (λ x. h * x) (parts-first whole))
-shares-most whole (suc n) h few most = grind (arith, common_steps, get_or, parts-at, mul-le-mul, mul-div-le)
-
 pub satisfaction : (e : Election) (committee : List ℕ) → IsElection e → satisfaction_value e.m e.rows committee < 2 ^ 125
-satisfaction e committee valid =
-    let whole : ℕ = common_multiple e.m in
-    let worth : Row → ℕ = λ (r : Row). hits r.0 committee * get_or (parts whole) (length r.0) 0 in
-    let each : (r : Row) → IsIncreasing 1 e.m r.0 → worth r ≤ whole = λ r h.
-    shares-most whole (length r.0) (hits r.0 committee) (count_by-le-length (has_member committee) r.0) (omega (arith, length-increasing 1 e.m r.0 h, valid.most)) in
-    omega (
-      arith,
-      satisfaction_value-by_parts e.m e.m (parts whole) e.rows committee valid.most valid.ballots refl,
-      products (λ (r : Row). r.1) (λ (r : Row). hits r.0 committee) (λ (r : Row). get_or (parts whole) (length r.0) 0) e.rows,
-      all-most worth e whole valid each,
-      common_multiple_small e.m valid.most,
-    )
-  where
-    mul-assoc : (a b c : ℕ) → a * b * c ≡ a * (b * c)
-    mul-assoc a b c = omega arith
-
-    products : (a b c : Row → ℕ) (rows : List Row) → sum_by (λ (r : Row). a r * b r * c r) rows ≡ sum_by (λ (r : Row). a r * (b r * c r)) rows
-    products a b c [] = refl
-    products a b c (row ∷ rows) =
-        omega (arith, sum_by-cons (λ (r : Row). a r * b r * c r) row rows, sum_by-cons (λ (r : Row). a r * (b r * c r)) row rows, products a b c rows, mul-assoc (a row) (b row) (c row))
+satisfaction e committee valid = omega (arith, satisfaction-most e (parts (common_multiple e.m)) committee valid refl)
 
 -- ---- the bounds
 

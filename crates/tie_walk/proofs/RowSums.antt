@@ -59,6 +59,12 @@ module _ (worth : Row → ℕ) where
       let product : voter_count e.rows * most ≤ most_voters * most = mul-le-mul {m₁ = most} valid.voters (omega arith) in
       omega (arith, so_far, product, rows-most e.m most e.rows valid.ballots each)
 
+-- the sum of two amounts
+pub sum-parts : (f g h : Row → ℕ) (m : ℕ) (rows : List Row) → AreBallots m rows → ((r : Row) → IsIncreasing 1 m r.0 → f r ≡ g r + h r)
+    → sum_by f rows ≡ sum_by g rows + sum_by h rows
+sum-parts f g h m [] all each = refl
+sum-parts f g h m (row ∷ rows) all each = omega (arith, each row all.0, sum-parts f g h m rows all.1 each, sum_by-cons f row rows, sum_by-cons g row rows, sum_by-cons h row rows)
+
 -- by a table of the parts of a whole
 pub satisfaction_value-by_parts : (m n : ℕ) (shares : List ℕ) (rows : List Row) (committee : List ℕ) → m ≤ most_candidates → AreBallots m rows → shares ≡ parts (common_multiple n)
     → sum_by (λ (r : Row). r.1 * hits r.0 committee * get_or shares (length r.0) 0) rows ≡ satisfaction_value n rows committee

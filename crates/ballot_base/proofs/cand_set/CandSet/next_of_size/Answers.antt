@@ -1,3 +1,4 @@
+use Rattle.std.proofs.lemmas.Grind.{common_steps}
 use Rattle.std.proofs.Common.{◌<◌, ◌+◌, ◌-◌, ◌^◌, sym, subst, arith}
 use Rattle.std.proofs.lemmas.Nat.{pow_below, and_le_l}
 use Rattle.ballot_base.specs.Limits.{most_candidates}
@@ -12,8 +13,7 @@ returns-then-absent-eq0 c =
     rw (← c.self.view_is) (last_if_all c.self.inside.bits c.args.m c.numbers_to.result c.self.invariant c.requires.most c.numbers_to.ensures inc c.if-absent-eq0.true)
 
 pub greatest-free-requires-clause-most : goal.greatest-free-requires-clause-most
-greatest-free-requires-clause-most c =
-    omega (arith, bound_of_up_to c.args.m c.requires.most, c.numbers_to.ensures, and_le_l c.numbers_to.result (2 ^ 64 - 1 - c.self.inside.bits))
+greatest-free-requires-clause-most c = grind (arith, common_steps, bound_of_up_to, and_le_l)
 
 pub returns-then-below-eq0 : goal.returns-then-below-eq0
 returns-then-below-eq0 c =

@@ -1,3 +1,4 @@
+use Rattle.std.proofs.lemmas.Grind.{common_steps}
 use Rattle.std.proofs.Common.{◌≡◌, ◌-◌, ◌<◌, ◌≤◌, ◌∙◌, cond, ℕ, [], Some, sym, ap, subst, arith}
 use Rattle.ballot_base.specs.CandSet.{members_upto}
 use Rattle.tie_walk.specs.Ceilings.{is_open}
@@ -26,18 +27,7 @@ opened g c =
     (subst (λ (x : Aim g.row.T.Denot). c.enter.result ≡ is_open (g.T.Tally.bound_of x.tally) x.m x.k x.best c.loop-c.c c.upto-set.result) c.loop-c.invariant.same c.enter.ensures.open)
 
 pub loop-c-init : goal.loop-c-init
-loop-c-init g c =
-    let m = g.T.Tally.candidates c.args.tally.now in
-    let none : members_upto c.args.start 0 ≡ [] = upto-none 1 m 0 c.args.start (omega arith) c.requires.start.0 in
-    let all : m - 0 ≡ m = omega arith in
-    record {
-      walk = c.new-walk.ensures.walk;
-      same = c.new-walk.ensures.aim;
-      entered = c.new-walk.ensures.entered;
-      ceilings = c.new-walk.ensures.ceilings;
-      all = rw (none, all) (omega arith);
-      few = rw (none, all) (omega arith);
-    }
+loop-c-init g c = grind (arith, common_steps, upto-none)
 
 pub enter-requires-clause-place : goal.enter-requires-clause-place
 enter-requires-clause-place g c =
@@ -49,16 +39,7 @@ past-walk-requires-clause-candidates g c = (here g (goal.at.past-walk-requires-c
 
 pub returns-then-not-enter-clause-walk : goal.returns-then-not-enter-clause-walk
 returns-then-not-enter-clause-walk g c =
-    let w = c.enter.ensures.walk in
-    let place = subst (λ (x : Aim g.row.T.Denot). IsPlace x.m x.k (Some (prefix_at c.loop-c.c c.upto-set.result))) (sym (c.enter.ensures.aim ∙ c.loop-c.invariant.same))
-    (here g (goal.at.returns-then-not-enter-clause-walk g c).After-upto-set) in
-    record {
-      m_is = w.m_is;
-      most = w.most;
-      some = w.some;
-      fits = w.fits;
-      place_is = place-past c.enter.new.self.m c.enter.new.self.k (prefix_at c.loop-c.c c.upto-set.result) c.past-walk.result place c.past-walk.ensures;
-    }
+    grind (arith, common_steps, prefix_at, here, place-past)
 
 pub returns-then-not-enter-clause-begun : goal.returns-then-not-enter-clause-begun
 returns-then-not-enter-clause-begun g c =
@@ -82,22 +63,7 @@ returns-then-not-enter-clause-begun g c =
 
 pub loop-c-preserved : goal.loop-c-preserved
 loop-c-preserved g c =
-    let at = goal.at.loop-c-preserved g c in
-    let m = g.T.Tally.candidates c.args.tally.now in
-    let bound = g.T.Tally.bound_of c.args.tally.now in
-    let up = c.requires.start.0 in
-    let size = c.requires.start.1 in
-    let more : c.loop-c.c < m = omega (arith, c.loop-c-test.true, m-is g at.After-new-walk) in
-    let is = sym (opened g at.After-enter) ∙ c.if-not-enter.false in
-    let entered = ap {B = ℕ} (λ b. cond b 1 0) c.if-not-enter.false in
-    record {
-      walk = c.enter.ensures.walk;
-      same = c.enter.ensures.aim ∙ c.loop-c.invariant.same;
-      entered = omega (arith, c.enter.ensures.entered, entered, c.loop-c.invariant.entered);
-      ceilings = omega (arith, c.enter.ensures.asked, c.enter.ensures.once, entered, c.loop-c.invariant.ceilings);
-      all = omega (arith, down-all m c.args.k c.args.start up size bound c.args.best c.loop-c.c more is, c.loop-c.invariant.all);
-      few = omega (arith, down-step m c.args.k bound c.args.best c.loop-c.c c.args.start more up size is, c.loop-c.invariant.few);
-    }
+    grind (arith, common_steps, m-is, opened, down-all, down-step)
 
 pub returns-clause-begun : goal.returns-clause-begun
 returns-clause-begun g c =
