@@ -1,14 +1,13 @@
 -- In which ranges values and bounds lie, whatever the election is.
 use Rattle.std.proofs.lemmas.Grind.{common_steps}
-use Rattle.std.proofs.Common.{◌≡◌, ℕ, zero, suc, ◌+◌, ◌-◌, ◌*◌, ◌/◌, ◌^◌, ◌<◌, ◌≤◌, ◌∙◌, Bool, true, false, cond, List, [], ◌∷◌, ◌++◌, add-one, ap, arith, get_or, length, lit≤, map, refl, sum, sum_by, sym, take}
+use Rattle.std.proofs.Common.{◌≡◌, ℕ, zero, suc, ◌+◌, ◌-◌, ◌*◌, ◌/◌, ◌^◌, ◌<◌, ◌≤◌, Bool, true, false, cond, List, ◌++◌, add-one, arith, get_or, length, lit≤, map, refl, sum, sym, take}
 use Rattle.std.specs.Prelude.{nat_le}
 use Rattle.std.specs.List.{range_with_len}
-use Rattle.std.proofs.Math.Nat.{div-mul-le_self, le-div_iff_mul-le, mul-div-le, mul-le-mul, mul-le-mul_right, pow-le-pow_left, pow-le-pow_right}
+use Rattle.std.proofs.Math.Nat.{div-mul-le_self, le-div_iff_mul-le, mul-le-mul_right, pow-le-pow_left, pow-le-pow_right}
 use Rattle.std.proofs.lemmas.Bool.{leb-true}
-use Rattle.std.proofs.lemmas.List.Sums.{sum-map, sum_by-cons, sum_by-le-sum_by, sum_by-take-le, count_by-le-length}
-use Rattle.ballot_base.specs.Limits.{most_candidates, most_members, most_voters}
+use Rattle.std.proofs.lemmas.List.Sums.{sum-map, sum_by-le-sum_by}
+use Rattle.ballot_base.specs.Limits.{most_members, most_voters}
 use Rattle.ballot_base.specs.Lists.{IsIncreasing}
-use Rattle.ballot_base.specs.CandSet.{has_member}
 use Rattle.ballot_base.specs.CommonMultiple.{common_multiple}
 use Rattle.ballot_base.specs.Increments.{increment, increments, denominator}
 use Rattle.ballot_base.specs.Ballots.{Row, Election, IsElection, hits}
@@ -16,7 +15,7 @@ use Rattle.ballot_base.specs.declared.increments.ThieleRule.{ThieleRule}
 use Rattle.ballot_base.specs.declared.increments.ThieleRule.TheVariants.{Pav, Geom2, Geom3, Geom4}
 use Rattle.ballot_base.proofs.Committees.{length-increasing}
 use Rattle.ballot_base.proofs.Increasing.{has_member-above}
-use Rattle.ballot_base.proofs.LeastMultiples.{common_multiple_most, common_multiple_small}
+use Rattle.ballot_base.proofs.LeastMultiples.{common_multiple_most}
 use Rattle.ballot_base.proofs.WeightLemmas.{denominator-most, weight-most}
 use Rattle.tie_walk.specs.Ceilings.{ceiling, gain_at, greatest_sum}
 use Rattle.tie_walk.specs.Sequences.{gain}
@@ -24,7 +23,7 @@ use Rattle.tie_walk.specs.Values.{thiele_value, satisfaction_value}
 use Rattle.tie_walk.specs.Steps.Tables.{parts}
 use Rattle.tie_walk.proofs.Gains.{gain-most, satisfaction-most, thiele-gain, thiele-most}
 use Rattle.tie_walk.proofs.GreatestSums.{best_of-most, greatest_sum-same}
-use Rattle.tie_walk.proofs.RowSums.{all-most, satisfaction_value-by_parts}
+use Rattle.tie_walk.proofs.RowSums.{all-most}
 use Rattle.tie_walk.proofs.TableLemmas.{sum-take-le, sum-take_more}
 use Rattle.tie_walk.proofs.TightLemmas.{hits-most, satisfaction-tight}
 

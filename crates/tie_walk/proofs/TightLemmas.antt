@@ -1,25 +1,24 @@
 -- Bounds that are the value of a completion: under approval voting and satisfaction approval voting each candidate gives
 -- a committee the same, whoever else is in it.
 use Rattle.std.proofs.lemmas.Grind.{common_steps}
-use Rattle.std.proofs.Common.{◌≡◌, ℕ, zero, suc, ◌+◌, ◌-◌, ◌*◌, ◌<◌, ◌≤◌, ◌∙◌, false, cond, List, [], ◌∷◌, ◌++◌, refl, sym, ap, arith, inl, inr, length, length-append, append_assoc, sum_by, add-one, append-nil}
+use Rattle.std.proofs.Common.{◌≡◌, ℕ, zero, suc, ◌+◌, ◌-◌, ◌*◌, ◌<◌, ◌≤◌, ◌∙◌, cond, List, [], ◌∷◌, ◌++◌, refl, sym, ap, arith, inl, inr, length, length-append, append_assoc, sum_by, add-one, append-nil}
 use Rattle.std.proofs.lemmas.Bool.{cases_lt}
 use Rattle.std.proofs.lemmas.List.Sums.{sum_by-cons}
 use Rattle.ballot_base.specs.Limits.{most_members}
 use Rattle.ballot_base.specs.Lists.{IsIncreasing}
-use Rattle.ballot_base.specs.CandSet.{has_member, with_member}
+use Rattle.ballot_base.specs.CandSet.{has_member}
 use Rattle.ballot_base.specs.CommonMultiple.{common_multiple}
 use Rattle.ballot_base.specs.Increments.{increments}
 use Rattle.ballot_base.specs.declared.increments.ThieleRule.TheVariants.{Av}
 use Rattle.ballot_base.specs.Ballots.{Row, Election, IsElection, hits}
-use Rattle.ballot_base.proofs.Increasing.{IsIncreasing-push, IsIncreasing-lower, IsIncreasing-higher, with_member-above, with_member-lt, has_member-above, has_member-below}
+use Rattle.ballot_base.proofs.Increasing.{IsIncreasing-push, IsIncreasing-lower, IsIncreasing-higher, with_member-above, has_member-above}
 use Rattle.ballot_base.proofs.WeightLemmas.{increments-within}
 use Rattle.tie_walk.specs.Ceilings.{IsTight, ceiling, gain_at, greatest_sum}
 use Rattle.tie_walk.specs.Steps.Tables.{parts, score}
 use Rattle.tie_walk.specs.Values.{thiele_value, satisfaction_value}
 use Rattle.tie_walk.specs.declared.sequential.Step.TheVariants.{Grow}
-use Rattle.tie_walk.proofs.Gains.{hits-with, hits-none, thiele-partial, satisfaction-more, satisfaction-nothing}
+use Rattle.tie_walk.proofs.Gains.{thiele-partial, satisfaction-more, satisfaction-nothing}
 use Rattle.tie_walk.proofs.GreatestSums.{best_of, best_of-none, best_of-short, best_of-more, greatest_sum-same, ceiling-whole}
-use Rattle.tie_walk.proofs.HitWeights.{one-most}
 use Rattle.tie_walk.proofs.Distances.{common-least_right}
 use Rattle.tie_walk.proofs.RowSums.{AreBallots, length-common}
 use Rattle.tie_walk.proofs.WorthLemmas.{partial}

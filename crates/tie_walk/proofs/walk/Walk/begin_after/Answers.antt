@@ -1,5 +1,5 @@
 use Rattle.std.proofs.lemmas.Grind.{common_steps}
-use Rattle.std.proofs.Common.{◌≡◌, ◌-◌, ◌<◌, ◌≤◌, ◌∙◌, cond, ℕ, [], Some, sym, ap, subst, arith}
+use Rattle.std.proofs.Common.{◌≡◌, ◌-◌, ◌≤◌, ◌∙◌, cond, ℕ, [], Some, sym, ap, subst, arith}
 use Rattle.ballot_base.specs.CandSet.{members_upto}
 use Rattle.tie_walk.specs.Ceilings.{is_open}
 use Rattle.tie_walk.specs.Steps.Walks.{committees_below, IsPlace, Aim, those_reaching}
