@@ -57,15 +57,10 @@ loop-ballot-preserved-then-given-gt0 g c n =
     let at = goal.at.loop-ballot-preserved-then-given-gt0 g c in
     let t : Thiele = c.args.self.now in
     let row : Row = (c.in-Some.ballot, c.in-Some.voters) in
-    let part : ℕ → ℕ = λ k. partial Grow (weights_of t) c.args.set n (take k t.election.rows) in
     let passed = length c.loop-ballot.yielded in
-    wanted-step (has_member c.args.others n) (has_member row.0 n) (has_member c.common-then-given-gt0.result n)
-    (part passed) (row.1 * weight (weights_of t) (hits row.0 c.args.set + 1)) (part (passed + 1)) (get_or c.loop-ballot.gains n 0) (get_or c.add.new.self n 0)
-    (ap (λ s. has_member s n) c.common-then-given-gt0.ensures ∙ has_member-filter (has_member c.args.others) row.0 n)
-    (c.loop-ballot.invariant n)
-    (c.add.ensures n ∙ ap (λ x. get_or c.loop-ballot.gains n 0 + cond (has_member c.common-then-given-gt0.result n) x 0) (given g at.After-weight))
-    (partial-more Grow (weights_of t) c.args.set t.election.rows passed n row (found g at.In-Some))
-    ∙ ap (λ k. cond (has_member c.args.others n) (part k) 0) (sym (length_push c.loop-ballot.yielded row))
+    c.add.ensures n
+    ∙ rw (given g at.After-weight, c.loop-ballot.invariant n, c.common-then-given-gt0.ensures, has_member-filter (has_member c.args.others) row.0 n, length_push c.loop-ballot.yielded row, partial-more Grow (weights_of t) c.args.set t.election.rows passed n row (found g at.In-Some))
+    (wanted-step (has_member c.args.others n) (has_member row.0 n) (partial Grow (weights_of t) c.args.set n (take passed t.election.rows)) (row.1 * weight (weights_of t) (hits row.0 c.args.set + 1)))
 
 pub loop-ballot-preserved : goal.loop-ballot-preserved
 loop-ballot-preserved g c n =

@@ -48,15 +48,9 @@ overflow_add-value g c =
 pub loop-ballot-preserved : goal.loop-ballot-preserved
 loop-ballot-preserved g c =
     let at = goal.at.loop-ballot-preserved g c in
-    let worths = worth c.args.self.now c.args.set in
-    let rows = c.args.self.now.election.rows in
-    omega (
-      arith,
-      given g at.After-from-in-loop-ballot,
-      c.loop-ballot.invariant,
-      rows-more worths rows (length c.loop-ballot.yielded) (c.in-Some.ballot, c.in-Some.voters) (found g at.In-Some),
-      ap (λ n. sum_by (λ (r : Row). r.1 * worths r) (take n rows)) (length_push c.loop-ballot.yielded (c.in-Some.ballot, c.in-Some.voters)),
-    )
+    let row : Row = (c.in-Some.ballot, c.in-Some.voters) in
+    rw (length_push c.loop-ballot.yielded row, rows-more (worth c.args.self.now c.args.set) c.args.self.now.election.rows (length c.loop-ballot.yielded) row (found g at.In-Some))
+    (omega (arith, given g at.After-from-in-loop-ballot, c.loop-ballot.invariant))
 
 pub returns : goal.returns
 returns g c =
