@@ -85,12 +85,6 @@ any-weaker p q (x ∷ xs) each is = elim (cases_Bool (p x)) [
       or_right (q x) (list_any q xs) (any-weaker p q xs each rest)
 ]
 
-any-front : (p : List ℕ → Bool) (xs ys : List (List ℕ)) → list_any p xs ≡ true → list_any p (xs ++ ys) ≡ true
-any-front p xs ys is = list_any-append p xs ys ∙ or_left (list_any p xs) (list_any p ys) is
-
-any-back : (p : List ℕ → Bool) (xs ys : List (List ℕ)) → list_any p ys ≡ true → list_any p (xs ++ ys) ≡ true
-any-back p xs ys is = list_any-append p xs ys ∙ or_right (list_any p xs) (list_any p ys) is
-
 -- ---- prefixes whose committees all come after the start
 
 module _ (m k : ℕ) (after : Option (List ℕ)) where
@@ -147,14 +141,14 @@ module _ (m k : ℕ) (after : Option (List ℕ)) where
       where
         ahead-without : (n : ℕ) (s : List ℕ) → n < m → length s ≤ k → AllAhead n s → AllAhead (n + 1) s
         ahead-without n s more few all' test is =
-            grind (arith, common_steps, cases_lt, below-split, any-back, below-full)
+            grind (arith, common_steps, cases_lt, below-split, list_any-append, or_right, below-full)
 
         live-grown : (r n : ℕ) (s : List ℕ) → n + suc r ≡ m → IsIncreasing 1 n s → length s ≤ k → AllAhead n s
             → (IsIncreasing 1 (n + 1) (s ++ (n + 1) ∷ []) → AllAhead (n + 1) (s ++ (n + 1) ∷ [])
             → live_below bound m k best after r (n + 1) (s ++ (n + 1) ∷ []) ≡ open_below bound m k best r (n + 1) (s ++ (n + 1) ∷ []))
             → live_below bound m k best after r (n + 1) (s ++ (n + 1) ∷ []) ≡ open_below bound m k best r (n + 1) (s ++ (n + 1) ∷ [])
         live-grown r n s e' up' few all' again =
-            grind (arith, common_steps, cases_lt, IsIncreasing-push, below-split, any-front, length-append, shut-large, live-shut, open-none)
+            grind (arith, common_steps, cases_lt, IsIncreasing-push, below-split, list_any-append, or_left, length-append, shut-large, live-shut, open-none)
 
     -- ---- on the way down to the start: the prefix with the next candidate, and the one without
     module _ (c : ℕ) (set : List ℕ) (more : c < m) (up : IsIncreasing 1 c set) (is : is_open bound m k best c set ≡ true) where
@@ -208,7 +202,7 @@ module _ (m k : ℕ) where
 
   in-after : (test : List ℕ → Bool) (set rest : List ℕ) (n : ℕ) → list_any test (committees_below m k n set) ≡ true
       → list_any test (committees_after m k [] (set ++ n ∷ rest)) ≡ true
-  in-after test set rest n is = grind (arith, common_steps, after-append, any-front, any-back)
+  in-after test set rest n is = grind (arith, common_steps, after-append, list_any-append, or_left, or_right)
 
   -- without a member of the start, and with all before it, come committees after the start
   pub ahead-start : (start set rest : List ℕ) (n : ℕ) → IsIncreasing 1 m start → length start ≡ k → start ≡ set ++ n ∷ rest → AllAhead m k (Some start) n set

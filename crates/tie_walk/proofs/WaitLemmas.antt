@@ -63,9 +63,6 @@ module _ (value : List ℕ → ℕ) (m k best : ℕ) where
       → is_open bound m k best c set ≡ true → is_alive value m k best c set ≡ true
   alive-open bound c set exact inside up is = grind (arith, common_steps, open-sizes, open-reaches, alive-added)
 
-  alive-full : (c d : ℕ) (set : List ℕ) → length set ≡ k → is_alive value m k best c set ≡ is_alive value m k best d set
-  alive-full c d set full = ap (list_any (λ list. nat_le best (value list))) (below-full m k c set full ∙ sym (below-full m k d set full))
-
   pub alive-whole : (c : ℕ) (set : List ℕ) → length set ≡ k → is_alive value m k best c set ≡ true → best ≤ value set
   alive-whole c set full is = grind (arith, common_steps, cases_Bool, leb-true, below-full)
 
@@ -107,7 +104,7 @@ module _ (value : List ℕ → ℕ) (m k best : ℕ) where
       → is_alive value m k best prefix.c prefix.set ≡ true
       → 1 + waits_from value m k best (Some next) ≤ waits_from value m k best (Some prefix)
   wait-first prefix next more here at grown full alive =
-      grind (arith, common_steps, cases_lt, wait-child, alive-full, waits-alive)
+      grind (arith, common_steps, cases_lt, wait-child, below-full, waits-alive)
 
   -- ---- no place waits long
 
