@@ -61,8 +61,7 @@ module _ (m k : ℕ) (start : List ℕ) (up : IsIncreasing 1 m start) (size : le
       below : (rest more : List ℕ) → start ≡ members_upto start c ++ rest → IsIncreasing (c + 1 + 1) m rest
           → is_later (members_upto start c ++ (c + 1) ∷ more) start ≡ false
       below [] more is above = absurd (omega (arith, few, size, ap length is, length-append (members_upto start c) []))
-      below (y ∷ rest) more is above =
-          subst (λ s. is_later (members_upto start c ++ (c + 1) ∷ more) s ≡ false) (sym is) (smaller-before (members_upto start c) more rest (c + 1) y (omega (arith, above.0)))
+      below (y ∷ rest) more is above = grind (arith, common_steps, smaller-before)
 
       each : (list : List ℕ) → IsIncreasing 1 m list → members_upto list (c + 1) ≡ members_upto start c ++ (c + 1) ∷ [] → is_later list start ≡ false
       each list chosen same =
