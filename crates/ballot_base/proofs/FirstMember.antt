@@ -93,8 +93,7 @@ lowest_below bits h ne =
 
 pub split_members : (bits : ℕ) → bits < 2 ^ most_candidates → (bits ≡ 0 → ⊥) → members bits ≡ (trailing_zeros w64 bits + 1) ∷ without_member (members bits) (trailing_zeros w64 bits + 1)
 split_members bits h ne =
-    let z = bit_at-trailing_zeros w64 bits (omega arith) (omega arith) in
-    least_at bits (trailing_zeros w64 bits) (members bits) h (lowest_below bits h ne) refl z.1 z.2
+    grind (arith, common_steps, bit_at-trailing_zeros w64 bits (omega arith) (omega arith), least_at, lowest_below bits h ne)
 
 -- the least member, and the word of the others
 -- the lowest bit is off in the number below
@@ -188,14 +187,7 @@ zero_from_product (suc m) p h e = absurd (omega arith)
 order_above_is : (b t : ℕ) (set : List ℕ) → b < 2 ^ most_candidates → t < most_candidates → (bit_at b t ≡ 1 → ⊥) → bits_of set ≡ (b / 2 ^ (t + 1) % 2 ^ (most_candidates - 1 - t)) * 2 ^ (t + 1) → order_above set ≡ cond (b / 2 ^ t == 0) Greater Less
 unfolding order_above
 order_above_is b t [] h u other w =
-    let half : b / 2 ^ t / 2 ≡ b / 2 ^ (t + 1) = shr-shr b t 1 in
-    let small : b / 2 ^ (t + 1) < 2 ^ (most_candidates - 1 - t) =
-    shr_below b (most_candidates - 1 - t) (t + 1) (let e : most_candidates - 1 - t + (t + 1) ≡ most_candidates = omega arith in subst (λ n. b < 2 ^ n) (sym e) h) in
-    let low : b / 2 ^ (t + 1) % 2 ^ (most_candidates - 1 - t) ≡ 0 = zero_from_product (b / 2 ^ (t + 1) % 2 ^ (most_candidates - 1 - t)) (2 ^ (t + 1)) (pow_pos (t + 1)) (sym w) in
-    let none : b / 2 ^ (t + 1) ≡ 0 = sym (mod-eq_of_lt small) ∙ low in
-    let bit : b / 2 ^ t % 2 < 2 = bit_at-lt b t in
-    let z : b / 2 ^ t ≡ 0 = omega arith in
-    rw (eq-eqb (b / 2 ^ t) 0 z)
+    grind (arith, common_steps, shr-shr b t 1, shr_below, zero_from_product, pow_pos, mod-eq_of_lt, bit_at-lt b t, eq-eqb)
 order_above_is b t (x ∷ xs) h u other w =
     let half : b / 2 ^ t / 2 ≡ b / 2 ^ (t + 1) = shr-shr b t 1 in
     let some : b / 2 ^ t ≡ 0 → ⊥ = λ z.

@@ -45,10 +45,8 @@ or_turned false b c = refl
 -- two increasing lists with the same numbers are equal
 pub same_increasing : (first last : ℕ) (xs ys : List ℕ) → IsIncreasing first last xs → IsIncreasing first last ys → ((n : ℕ) → has_member xs n ≡ has_member ys n) → xs ≡ ys
 same_increasing first last [] [] i j h = refl
-same_increasing first last [] (y ∷ ys) i j h =
-    let e : false ≡ true = h y ∙ has_member_head y ys in cc
-same_increasing first last (x ∷ xs) [] i j h =
-    let e : true ≡ false = sym (has_member_head x xs) ∙ h x in cc
+same_increasing first last [] (y ∷ ys) i j h = grind (arith, common_steps, has_member_head y ys)
+same_increasing first last (x ∷ xs) [] i j h = grind (arith, common_steps, has_member_head x xs)
 same_increasing first last (x ∷ xs) (y ∷ ys) i j h =
     elim (cases_order x y) [
       | inl e ↦

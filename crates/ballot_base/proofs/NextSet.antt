@@ -1,6 +1,6 @@
 -- The word of the set after another one of its size.
 use Rattle.std.proofs.lemmas.Grind.{common_steps}
-use Rattle.std.proofs.Common.{◌≡◌, ℕ, zero, suc, ◌+◌, ◌-◌, ◌*◌, ◌/◌, ◌^◌, ◌<◌, ◌≤◌, ◌==◌, false, min, max, List, [], ◌∷◌, ◌++◌, refl, sym, ap, ◌∙◌, subst, arith, inl, inr, bit_and, bit_or, w64, append_assoc, append-nil, add-zero, zero-add}
+use Rattle.std.proofs.Common.{◌≡◌, ℕ, zero, suc, ◌+◌, ◌-◌, ◌*◌, ◌/◌, ◌^◌, ◌<◌, ◌≤◌, ◌==◌, min, max, List, [], ◌∷◌, ◌++◌, refl, sym, ap, ◌∙◌, subst, arith, inl, inr, bit_and, bit_or, w64, append_assoc, append-nil, add-zero, zero-add}
 use Rattle.std.specs.Int.{bit_at}
 use Rattle.std.specs.List.{range_with_len}
 use Rattle.std.specs.Prelude.{nat_le}
@@ -32,12 +32,7 @@ ones_shr n width within = grind (arith, common_steps, pow-add, ones_product, pow
 pub greatest_is : (bits top last : ℕ) → 2 ^ top ≤ bits → bits < 2 * 2 ^ top → last ≡ top + 1
     → (bit_at bits (last - 1) ≡ 1) × ((i : ℕ) → last ≤ i → bit_at bits i ≡ 0)
 greatest_is bits top last low high is =
-    let two : 2 ^ (top + 1) ≡ 2 ^ top * 2 = pow-add 2 top 1 in
-    let back : last - 1 ≡ top = omega arith in
-    let parts : bits ≡ 1 * 2 ^ top + (bits - 2 ^ top) = omega arith in
-    let one : bit_at bits top ≡ 1 =
-    ap (λ n. bit_at n top) parts ∙ (bit_at_cat_high 1 top (bits - 2 ^ top) top (omega arith) (omega arith) ∙ ap (bit_at 1) (let z : top - top ≡ 0 = omega arith in z)) in
-    (ap (bit_at bits) back ∙ one, λ i h. bit_at_above bits (top + 1) i (omega arith) (omega arith))
+    grind (arith, common_steps, pow-add 2 top 1, bit_at_cat_high 1 top (bits - 2 ^ top) top (omega arith) (omega arith), bit_at_above)
 
 -- a word of few bits has no great number
 pub greatest_most : (most bits top : ℕ) → 2 ^ top ≤ bits → bits < 2 ^ most → top + 1 ≤ most
@@ -106,9 +101,7 @@ IsLastSet-from_run m from run set e h = grind (arith, common_steps, length-range
 -- a set of the numbers 1 to m has none above m
 none_above : (bits m : ℕ) → IsIncreasing 1 m (members bits) → (n : ℕ) → 1 ≤ n → m < n → n ≤ most_candidates → bit_at bits (n - 1) ≡ 0
 none_above bits m i n low h high =
-    let no : (bit_at bits (n - 1) == 1) ≡ false = sym (has_member-members bits n low high) ∙ has_member-above 1 m (members bits) n i h in
-    let ne : bit_at bits (n - 1) ≡ 1 → ⊥ = eqb-false (bit_at bits (n - 1)) 1 no in
-    omega (arith, ne, bit_at-lt bits (n - 1))
+    grind (arith, common_steps, has_member-members bits n low high, has_member-above 1 m (members bits) n i h, eqb-false, bit_at-lt bits (n - 1))
 
 -- the numbers 1 to m that a word has not
 absent_bit : (bits m i : ℕ) → bits < 2 ^ most_candidates → m ≤ most_candidates → i < most_candidates → bit_at (bit_and (2 ^ m - 1) (2 ^ 64 - 1 - bits)) i ≡ min (bit_at (2 ^ m - 1) i) (1 - bit_at bits i)

@@ -33,9 +33,7 @@ numbers_to-requires-3 c =
     let bits = c.self.inside.bits in
     let f = c.greatest-free.ensures in
     let l = c.greatest-last.ensures in
-    let free = free_of bits c.args.m c.numbers_to.result c.greatest-free.result c.self.invariant c.requires.most c.numbers_to.ensures f.low f.high f.member f.above in
-    let growing = growing_of bits c.numbers_to-2.result c.greatest-free.result c.greatest-last.result c.numbers_to-2.ensures f.low l.low l.member l.above in
-    omega (arith, free.most, growing.less, c.requires.most)
+    grind (arith, common_steps, free_of bits c.args.m c.numbers_to.result c.greatest-free.result c.self.invariant c.requires.most c.numbers_to.ensures f.low f.high f.member f.above, growing_of bits c.numbers_to-2.result c.greatest-free.result c.greatest-last.result c.numbers_to-2.ensures f.low l.low l.member l.above)
 
 pub overflow_sub-run : goal.overflow_sub-run
 overflow_sub-run c =
