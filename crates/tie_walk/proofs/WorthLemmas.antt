@@ -1,6 +1,6 @@
 -- What a set gains by a candidate, or loses with one, over the rows.
 use Rattle.std.proofs.lemmas.Grind.{common_steps}
-use Rattle.std.proofs.Common.{◌≡◌, ℕ, zero, suc, ◌+◌, ◌*◌, ◌≤◌, ◌^◌, ◌&&◌, Bool, true, false, cond, List, [], ◌∷◌, Some, refl, ap, arith, take, get_or, slice_get, sum_by, replicate}
+use Rattle.std.proofs.Common.{◌≡◌, ℕ, zero, suc, ◌+◌, ◌*◌, ◌≤◌, ◌^◌, ◌&&◌, Bool, true, false, cond, List, [], ◌∷◌, Some, refl, arith, take, get_or, slice_get, sum_by, replicate}
 use Rattle.std.proofs.lemmas.List.Sums.{sum_by-cons}
 use Rattle.ballot_base.specs.CandSet.{has_member}
 use Rattle.ballot_base.specs.Ballots.{Row, Election, IsElection, hits}

@@ -1,4 +1,3 @@
-use Rattle.std.proofs.lemmas.Grind.{common_steps}
 use Rattle.std.proofs.Common.{◌≡◌, ℕ, ◌+◌, ◌-◌, ◌*◌, ◌^◌, ◌≤◌, ◌∙◌, Some, ap, arith, length, slice_get, take, get_or, sum_by}
 use Rattle.std.proofs.lemmas.List.{length_push}
 use Rattle.ballot_base.specs.Ballots.{Row}
