@@ -37,7 +37,10 @@ fits g c n =
     (λ j. weights-small t.rule t.k (weights_of t) j few refl) (found g c)
 
 given : (g : _) (c : After-weight g) → c.from.result * c.weight.result ≡ c.in-Some.voters * weight (weights_of c.args.self.now) (hits c.in-Some.ballot c.args.set + 1)
-given g c = grind (arith, common_steps, length-common, weights_of)
+given g c =
+    let same : c.len-hits.result ≡ hits c.in-Some.ballot c.args.set = c.len-hits.ensures.count ∙ ap length c.common.ensures ∙ length-common c.in-Some.ballot c.args.set in
+    let weights : c.self.inside.weights ≡ weights_of c.args.self.now = c.self.invariant.weights_are ∙ ap weights_of c.self.view_is in
+    rw (c.from.ensures, c.weight.ensures, weights, same)
 
 pub loop-ballot-init : goal.loop-ballot-init
 loop-ballot-init g c n = c.none-gains.ensures n ∙ sym (not_wanted (has_member c.args.others n) 0 refl)
