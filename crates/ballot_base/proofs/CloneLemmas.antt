@@ -1,5 +1,6 @@
 -- Candidates whom the same voters approve.
-use Rattle.std.proofs.Common.{◌≡◌, ℕ, ◌+◌, ◌<◌, ◌&&◌, ◌∙◌, Bool, true, false, cond, not, List, [], ◌∷◌, Some, refl, sym, ap, filter, length, take, get_or, slice_get}
+use Rattle.std.proofs.lemmas.Grind.{common_steps}
+use Rattle.std.proofs.Common.{◌≡◌, ℕ, ◌+◌, ◌<◌, ◌&&◌, ◌∙◌, Bool, true, false, cond, not, List, [], ◌∷◌, Some, refl, sym, ap, filter, length, take, get_or, slice_get, arith}
 use Rattle.std.specs.List.{AllByRecursion, range_with_len}
 use Rattle.std.proofs.lemmas.Bool.{and_parts}
 use Rattle.std.proofs.lemmas.List.Folds.{list_all_more}
@@ -33,11 +34,7 @@ clones_among-are m rows c d is = (and_parts (are_clones rows c d) (has_member (r
 
 filter-both : {X : Type 0} (p q : X → Bool) (xs : List X) → filter (λ x. p x && q x) xs ≡ filter q (filter p xs)
 filter-both p q [] = refl
-filter-both p q (x ∷ xs) =
-    elim (p x) as (λ b. cond (b && q x) (x ∷ filter (λ y. p y && q y) xs) (filter (λ y. p y && q y) xs) ≡ filter q (cond b (x ∷ filter p xs) (filter p xs))) [
-      | true ↦ ap (λ l. cond (q x) (x ∷ l) l) (filter-both p q xs)
-      | false ↦ filter-both p q xs
-    ]
+filter-both p q (x ∷ xs) = grind (arith, common_steps, filter-both p q xs)
 
 filter-same : {X : Type 0} (p q : X → Bool) (xs : List X) → ((x : X) → p x ≡ q x) → filter p xs ≡ filter q xs
 filter-same p q [] same = refl

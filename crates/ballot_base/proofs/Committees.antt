@@ -1,4 +1,5 @@
 -- Increasing lists of one length: which they are, their order, and what comes after one of them.
+use Rattle.std.proofs.lemmas.Grind.{common_steps}
 use Rattle.std.proofs.Common.{◌≡◌, ℕ, zero, suc, ◌+◌, ◌-◌, ◌<◌, ◌≤◌, ◌==◌, true, false, List, [], ◌∷◌, ◌++◌, refl, sym, ap, ◌∙◌, subst, arith, inl, inr, length, map, All, Contains, AllPairs, length-append, append_assoc, Greater, Option, Some, None, MatchOption, get_or}
 use Rattle.std.specs.List.{range_with_len, AllByRecursion}
 use Rattle.std.proofs.lemmas.Bool.{eq-eqb, ne_eqb, cases_eq, cases_lt, le-ltb, and_from, false≢true, false_from_ne_true}
@@ -54,8 +55,7 @@ pub lists_from-first : (count first size : ℕ) → size ≤ count → lists_fro
 lists_from-first count first zero h = lists_from-empty count first ∙ sym (lists_of-empty count first)
 lists_from-first zero first (suc size) h = absurd (omega arith)
 lists_from-first (suc count) first (suc size) h =
-    lists_from-here count first first (range_with_len (first + 1) size) refl
-    ∙ (rw (lists_from-first count (first + 1) size (omega arith), length-range_with_len) (sym (lists_of-more count first size)))
+    grind (arith, common_steps, lists_from-first count (first + 1) size (omega arith), lists_from-here, length-range_with_len, lists_of-more)
 
 -- from the last list on, it alone comes
 pub lists_from-last : (count first size low : ℕ) → size ≤ count → low + size ≡ first + count → lists_from count first (range_with_len low size) ≡ range_with_len low size ∷ []
@@ -73,10 +73,7 @@ lists_from-last (suc count) first (suc size) low h e =
 
 -- ---- one step
 same_length : (front : List ℕ) (last tail low : ℕ) → length (front ++ last ∷ range_with_len low tail) ≡ length (front ++ range_with_len (last + 1) (suc tail))
-same_length front last tail low =
-    length-append front (last ∷ range_with_len low tail)
-    ∙ (omega (arith, length-range_with_len low tail, length-range_with_len (last + 1 + 1) tail)
-    ∙ sym (length-append front (range_with_len (last + 1) (suc tail))))
+same_length front last tail low = grind (arith, common_steps, length-append, length-range_with_len)
 
 pub lists_from-next : (count first m : ℕ) (front : List ℕ) (last tail : ℕ) → first + count ≡ m + 1 → last + tail < m → IsIncreasing first m (front ++ last ∷ range_with_len (m + 1 - tail) tail) → lists_from count first (front ++ last ∷ range_with_len (m + 1 - tail) tail) ≡ (front ++ last ∷ range_with_len (m + 1 - tail) tail) ∷ lists_from count first (front ++ range_with_len (last + 1) (suc tail))
 lists_from-next zero first m [] last tail e h i = absurd (omega (arith, i.0, i.1))
@@ -130,8 +127,7 @@ lists_of-chosen (suc count) first last (suc size) h =
     (AllByRecursion-weaker (IsChosen (first + 1) last (suc size)) (IsChosen first last (suc size)) (λ x i. (IsIncreasing-lower first (first + 1) last x (omega arith) i.0, i.1)) (lists_of count (first + 1) (suc size)) (lists_of-chosen count (first + 1) last (suc size) (omega arith))))
 
 pub lists_of-contains : (count first last size : ℕ) (set : List ℕ) → last + 1 ≤ first + count → IsIncreasing first last set → length set ≡ size → Contains (lists_of count first size) set
-lists_of-contains count first last size [] h i e =
-    subst (λ n. Contains (lists_of count first n) []) e (rw (lists_of-empty count first) (0, omega arith, refl))
+lists_of-contains count first last size [] h i e = grind (arith, common_steps, lists_of-empty)
 lists_of-contains zero first last size (x ∷ rest) h i e = absurd (omega (arith, i.0, i.1))
 lists_of-contains (suc count) first last size (x ∷ rest) h i e =
     subst (λ n. Contains (lists_of (suc count) first n) (x ∷ rest)) e
@@ -174,8 +170,7 @@ Rising-map n (x ∷ xs) h = (AllByRecursion-map (After x) (After (n ∷ x)) (λ 
 
 After-head : (first last size : ℕ) (x y : List ℕ) → length x ≡ size → IsChosen (first + 1) last (suc size) y → After (first ∷ x) y
 After-head first last size x [] e c = absurd (omega (arith, c.1))
-After-head first last size x (n ∷ rest) e c =
-    (c.1 ∙ ap suc (sym e), rw (le-ltb n first (omega (arith, c.0.0)), ne_eqb n first (λ d. omega (arith, c.0.0, d))))
+After-head first last size x (n ∷ rest) e c = grind (arith, common_steps, le-ltb, ne_eqb)
 
 lists_of-rising : (count first size : ℕ) → Rising (lists_of count first size)
 unfolding Rising
@@ -196,9 +191,7 @@ AllPairs-from_rising : (xs : List (List ℕ)) → Rising xs → AllPairs (λ x y
 unfolding Rising
 AllPairs-from_rising [] h = λ i j d l k. absurd (omega arith)
 AllPairs-from_rising (x ∷ xs) h =
-    AllPairs-cons (λ a b. IsLater b a) x xs
-    (All-from_recursion (λ b. IsLater b x) xs (AllByRecursion-weaker (After x) (λ b. IsLater b x) (λ y a. IsLater-from_after x y a) xs h.0))
-    (AllPairs-from_rising xs h.1)
+    grind (arith, common_steps, AllPairs-from_rising xs h.1, AllPairs-cons, All-from_recursion, AllByRecursion-weaker, After, IsLater-from_after)
 
 -- ---- the same of the lists of numbers from first to last
 lists_of-none : (first last size : ℕ) → AllByRecursion (IsChosen first last size) (lists_of 0 first size)
@@ -219,13 +212,11 @@ increasing_lists-contains first last size set c = lists_of-contains (last + 1 - 
 
 pub chosen-from_contains : (first last size : ℕ) (set : List ℕ) → Contains (increasing_lists first last size) set → IsChosen first last size set
 chosen-from_contains first last size set h =
-    All-contains (IsChosen first last size) (increasing_lists first last size) set
-    (All-from_recursion (IsChosen first last size) (increasing_lists first last size) (increasing_lists-chosen first last size)) h
+    grind (arith, common_steps, All-contains, IsChosen, All-from_recursion, increasing_lists-chosen)
 
 pub increasing_lists-sizes : (first last size : ℕ) → All (λ set. length set ≡ size) (increasing_lists first last size)
 increasing_lists-sizes first last size =
-    All-from_recursion (λ set. length set ≡ size) (increasing_lists first last size)
-    (AllByRecursion-weaker (IsChosen first last size) (λ set. length set ≡ size) (λ set chosen. chosen.1) (increasing_lists first last size) (increasing_lists-chosen first last size))
+    grind (arith, common_steps, All-from_recursion, AllByRecursion-weaker, IsChosen, increasing_lists-chosen)
 
 pub increasing_lists-order : (first last size : ℕ) → AllPairs (λ x y. IsLater y x) (increasing_lists first last size)
 increasing_lists-order first last size = AllPairs-from_rising (increasing_lists first last size) (lists_of-rising (last + 1 - first) first size)
@@ -264,20 +255,12 @@ IsIncreasing-grown first m [] last tail rest h i =
 IsIncreasing-grown first m (x ∷ front) last tail rest h i = (i.0, i.1, IsIncreasing-grown (x + 1) m front last tail rest h i.2)
 
 pub next_place : (m : ℕ) (set : List ℕ) (next : Option (List ℕ)) → m ≤ most_candidates → IsIncreasing 1 m set → MatchOption next (IsLastSet m set) (IsNextSet m set) → MayComeNext m next × (lists_from m 1 set ≡ set ∷ sets_from m next)
-next_place m set None h i l =
-    let long = length-increasing 1 m set i in
-    (h, subst (λ s. lists_from m 1 s ≡ s ∷ []) (sym l) (lists_from-last m 1 (length set) (m + 1 - length set) (omega arith) (omega arith)))
+next_place m set None h i l = grind (arith, common_steps, length-increasing, lists_from-last)
 next_place m set (Some next) h i (front, last, tail, less, e, f) =
-    let inc = subst (λ s. IsIncreasing 1 m s) e i in
-    let step = lists_from-next m 1 m front last tail (omega arith) less inc in (
-      (h, subst (λ s. IsIncreasing 1 m s) (sym f) (IsIncreasing-grown 1 m front last tail (range_with_len (m + 1 - tail) tail) less inc)),
-      rw (e, f) step,
-    )
+    grind (arith, common_steps, lists_from-next, IsIncreasing-grown)
 
 pub first_place : (m k : ℕ) → m ≤ most_candidates → k ≤ m → MayComeNext m (Some (range_with_len 1 k)) × (lists_from m 1 (range_with_len 1 k) ≡ increasing_lists 1 m k)
-first_place m k h l =
-    let count : m + 1 - 1 ≡ m = omega arith in
-    ((h, IsIncreasing-range 1 k m (omega arith)), rw count (lists_from-first m 1 k l))
+first_place m k h l = grind (arith, common_steps, IsIncreasing-range, lists_from-first)
 
 -- the lists from one of them on are the last of all
 lists_of-split : (count first last : ℕ) (set : List ℕ) → first + count ≡ last + 1 → IsIncreasing first last set

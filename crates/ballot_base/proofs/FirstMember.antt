@@ -1,4 +1,5 @@
 -- How many members a word has, the least of them, and the order of two words by their members.
+use Rattle.std.proofs.lemmas.Grind.{common_steps}
 use Rattle.std.proofs.Common.{◌≡◌, ℕ, zero, suc, ◌+◌, ◌-◌, ◌*◌, ◌/◌, ◌%◌, ◌^◌, ◌<◌, ◌≤◌, ◌==◌, Bool, true, false, cond, min, List, [], ◌∷◌, refl, sym, ap, ◌∙◌, subst, arith, inl, inr, length, add-one, bit_and, bit_xor, w64, Less, Equal, Greater}
 use Rattle.std.specs.Int.Count.{ones-ones}
 use Rattle.std.specs.Int.{bit_at, trailing_zeros}
@@ -27,9 +28,7 @@ ones_bit (suc zero) h = ones-ones 1
 ones_bit (suc (suc b)) h = absurd (omega arith)
 
 pub length-members_among : (bits count a : ℕ) → length (members_among (a + 1) count bits) ≡ count_ones (bits / 2 ^ a % 2 ^ count)
-length-members_among bits zero a =
-    let e : bits / 2 ^ a % 2 ^ 0 ≡ 0 = omega (arith, mod_below (bits / 2 ^ a) 1 (omega arith)) in
-    rw (members_among_none (a + 1) bits, e, ones_bit 0 (omega arith))
+length-members_among bits zero a = grind (arith, common_steps, mod_below, members_among_none, ones_bit)
 length-members_among bits (suc count) a =
     let q : ℕ = bits / 2 ^ a in
     let back : a + 1 - 1 ≡ a = omega arith in
@@ -68,8 +67,7 @@ without_member_head x last xs i = rw (eq-eqb x x refl) (without_member-below x l
 
 -- the place t of the lowest 1
 least_at : (bits t : ℕ) (set : List ℕ) → bits < 2 ^ most_candidates → t < most_candidates → members bits ≡ set → bit_at bits t ≡ 1 → ((i : ℕ) → i < t → bit_at bits i ≡ 0) → set ≡ (t + 1) ∷ without_member set (t + 1)
-least_at bits t [] h u e one below =
-    let z : bits ≡ 0 = zero_from_none bits h e in absurd (omega (arith, one, ap (λ b. bit_at b t) z, bit_at-zero t))
+least_at bits t [] h u e one below = grind (arith, common_steps, zero_from_none, bit_at-zero)
 least_at bits t (x ∷ xs) h u e one below =
     let inc = subst (λ s. IsIncreasing 1 most_candidates s) e (IsIncreasing-members bits) in
     let has : (n : ℕ) → 1 ≤ n → n ≤ most_candidates → has_member (x ∷ xs) n ≡ (bit_at bits (n - 1) == 1) =
@@ -95,23 +93,14 @@ lowest_below bits h ne =
 
 pub split_members : (bits : ℕ) → bits < 2 ^ most_candidates → (bits ≡ 0 → ⊥) → members bits ≡ (trailing_zeros w64 bits + 1) ∷ without_member (members bits) (trailing_zeros w64 bits + 1)
 split_members bits h ne =
-    let z = bit_at-trailing_zeros w64 bits (omega arith) (omega arith) in
-    least_at bits (trailing_zeros w64 bits) (members bits) h (lowest_below bits h ne) refl z.1 z.2
+    grind (arith, common_steps, bit_at-trailing_zeros w64 bits (omega arith) (omega arith), least_at, lowest_below bits h ne)
 
 -- the least member, and the word of the others
 -- the lowest bit is off in the number below
 lowest_off : (t bits : ℕ) → bit_at bits t ≡ 1 → ((i : ℕ) → i < t → bit_at bits i ≡ 0)
     → (i : ℕ) → min (bit_at bits i) (bit_at (bits - 1) i) ≡ cond (i == t) 0 (bit_at bits i)
 lowest_off zero bits one none zero = omega (arith, bit_at_lowest bits, bit_at_lowest (bits - 1), one)
-lowest_off zero bits one none (suc i) =
-    let half : (bits - 1) / 2 ≡ bits / 2 = omega (arith, bit_at_lowest bits, one) in
-    omega (
-      arith,
-      bit_at-suc bits i,
-      bit_at-suc (bits - 1) i,
-      ap (λ n. bit_at n i) half,
-      ap (λ b. cond b 0 (bit_at bits (suc i))) (ne_eqb (suc i) 0 (λ e. absurd (omega (arith, e)))),
-    )
+lowest_off zero bits one none (suc i) = grind (arith, common_steps, bit_at_lowest, bit_at-suc, ne_eqb)
 lowest_off (suc t) bits one none zero =
     omega (
       arith,
@@ -198,14 +187,7 @@ zero_from_product (suc m) p h e = absurd (omega arith)
 order_above_is : (b t : ℕ) (set : List ℕ) → b < 2 ^ most_candidates → t < most_candidates → (bit_at b t ≡ 1 → ⊥) → bits_of set ≡ (b / 2 ^ (t + 1) % 2 ^ (most_candidates - 1 - t)) * 2 ^ (t + 1) → order_above set ≡ cond (b / 2 ^ t == 0) Greater Less
 unfolding order_above
 order_above_is b t [] h u other w =
-    let half : b / 2 ^ t / 2 ≡ b / 2 ^ (t + 1) = shr-shr b t 1 in
-    let small : b / 2 ^ (t + 1) < 2 ^ (most_candidates - 1 - t) =
-    shr_below b (most_candidates - 1 - t) (t + 1) (let e : most_candidates - 1 - t + (t + 1) ≡ most_candidates = omega arith in subst (λ n. b < 2 ^ n) (sym e) h) in
-    let low : b / 2 ^ (t + 1) % 2 ^ (most_candidates - 1 - t) ≡ 0 = zero_from_product (b / 2 ^ (t + 1) % 2 ^ (most_candidates - 1 - t)) (2 ^ (t + 1)) (pow_pos (t + 1)) (sym w) in
-    let none : b / 2 ^ (t + 1) ≡ 0 = sym (mod-eq_of_lt small) ∙ low in
-    let bit : b / 2 ^ t % 2 < 2 = bit_at-lt b t in
-    let z : b / 2 ^ t ≡ 0 = omega arith in
-    rw (eq-eqb (b / 2 ^ t) 0 z)
+    grind (arith, common_steps, shr-shr b t 1, shr_below, zero_from_product, pow_pos, mod-eq_of_lt, bit_at-lt b t, eq-eqb)
 order_above_is b t (x ∷ xs) h u other w =
     let half : b / 2 ^ t / 2 ≡ b / 2 ^ (t + 1) = shr-shr b t 1 in
     let some : b / 2 ^ t ≡ 0 → ⊥ = λ z.
@@ -234,11 +216,7 @@ lowest_difference a b h k ne =
     )
 
 pub cmp_self_first : (a b : ℕ) → a < 2 ^ most_candidates → b < 2 ^ most_candidates → (bit_xor a b ≡ 0 → ⊥) → bit_and (a / 2 ^ (trailing_zeros w64 (bit_xor a b))) 1 ≡ 1 → slice_cmp nat_cmp (members a) (members b) ≡ cond (b / 2 ^ (trailing_zeros w64 (bit_xor a b)) == 0) Greater Less
-cmp_self_first a b h k ne one =
-    let t : ℕ = trailing_zeros w64 (bit_xor a b) in
-    let d = lowest_difference a b h k ne in
-    let mine : bit_at a t ≡ 1 = sym (shr_and_one a t) ∙ one in
-    cmp_members a b t k d.0 d.2 mine (λ e. omega (arith, d.1, mine, e))
+cmp_self_first a b h k ne one = grind (arith, common_steps, lowest_difference, shr_and_one, cmp_members)
 
 pub cmp_other_first : (a b : ℕ) → a < 2 ^ most_candidates → b < 2 ^ most_candidates → (bit_xor a b ≡ 0 → ⊥) → (bit_and (a / 2 ^ (trailing_zeros w64 (bit_xor a b))) 1 ≡ 1 → ⊥) → slice_cmp nat_cmp (members a) (members b) ≡ cond (a / 2 ^ (trailing_zeros w64 (bit_xor a b)) == 0) Less Greater
 cmp_other_first a b h k ne other =

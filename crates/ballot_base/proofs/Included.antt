@@ -1,5 +1,6 @@
 -- Whether a filter keeps all of a list, and what is true of all its members.
-use Rattle.std.proofs.Common.{◌≡◌, ℕ, ◌≤◌, ◌==◌, ◌&&◌, Bool, true, false, cond, List, [], ◌∷◌, refl, sym, ap, ◌∙◌, arith, inl, inr, length, filter}
+use Rattle.std.proofs.lemmas.Grind.{common_steps}
+use Rattle.std.proofs.Common.{◌≡◌, ℕ, ◌==◌, Bool, true, false, List, [], ◌∷◌, refl, sym, ap, ◌∙◌, arith, inl, inr, length, filter}
 use Rattle.std.specs.List.{list_all}
 use Rattle.std.specs.Str.{bytes_eq}
 use Rattle.std.proofs.lemmas.Bool.{and_from, and_parts, cases_eq, eq-eqb, ne_eqb, or_right}
@@ -11,15 +12,7 @@ use Rattle.ballot_base.proofs.Increasing.{has_member_head, has_member_tail}
 -- all pass where a filter keeps as many as there are
 pub kept_all : (p : ℕ → Bool) (xs : List ℕ) → (length (filter p xs) == length xs) ≡ list_all p xs
 kept_all p [] = refl
-kept_all p (x ∷ xs) =
-    let few = count_by-le-length p xs in
-    let kept = length-filter p xs in
-    cases (p x) (kept_all p xs) (omega (arith, few, kept))
-  where
-    cases : (b : Bool) → (length (filter p xs) == length xs) ≡ list_all p xs → length (filter p xs) ≤ length xs
-        → (length (cond b (x ∷ filter p xs) (filter p xs)) == length (x ∷ xs)) ≡ (b && list_all p xs)
-    cases true more few = grind (arith, more)
-    cases false more few = ne_eqb (length (filter p xs)) (length (x ∷ xs)) (λ e. omega (arith, e, few))
+kept_all p (x ∷ xs) = grind (arith, common_steps, kept_all p xs, count_by-le-length, length-filter, ne_eqb)
 
 same_answers : (a b : Bool) → (a ≡ true → b ≡ true) → (b ≡ true → a ≡ true) → a ≡ b
 same_answers true b h k = sym (h refl)

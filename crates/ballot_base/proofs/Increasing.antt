@@ -1,5 +1,6 @@
 -- Increasing lists: which numbers they have, and that those decide the list.
-use Rattle.std.proofs.Common.{◌≡◌, ℕ, ◌+◌, ◌<◌, ◌≤◌, ◌==◌, ◌||◌, ◌&&◌, Bool, true, false, cond, List, [], ◌∷◌, refl, sym, ap, ◌∙◌, arith, inl, inr, length, count_by, filter, not, ◌++◌, get_or, drop, subst}
+use Rattle.std.proofs.lemmas.Grind.{common_steps}
+use Rattle.std.proofs.Common.{◌≡◌, ℕ, ◌+◌, ◌<◌, ◌≤◌, ◌==◌, ◌||◌, ◌&&◌, Bool, true, false, List, [], ◌∷◌, refl, sym, ap, ◌∙◌, arith, inl, inr, length, count_by, filter, not, ◌++◌, get_or, drop, subst}
 use Rattle.std.proofs.lemmas.Map.Views.{any-filter_same}
 use Rattle.std.proofs.lemmas.Bool.{eq-eqb, eqb-true, ne_eqb, lt-ltb, le-ltb, cases_order, cases_lt, or_left}
 use Rattle.std.proofs.lemmas.List.{drop_more}
@@ -44,10 +45,8 @@ or_turned false b c = refl
 -- two increasing lists with the same numbers are equal
 pub same_increasing : (first last : ℕ) (xs ys : List ℕ) → IsIncreasing first last xs → IsIncreasing first last ys → ((n : ℕ) → has_member xs n ≡ has_member ys n) → xs ≡ ys
 same_increasing first last [] [] i j h = refl
-same_increasing first last [] (y ∷ ys) i j h =
-    let e : false ≡ true = h y ∙ has_member_head y ys in cc
-same_increasing first last (x ∷ xs) [] i j h =
-    let e : true ≡ false = sym (has_member_head x xs) ∙ h x in cc
+same_increasing first last [] (y ∷ ys) i j h = grind (arith, common_steps, has_member_head y ys)
+same_increasing first last (x ∷ xs) [] i j h = grind (arith, common_steps, has_member_head x xs)
 same_increasing first last (x ∷ xs) (y ∷ ys) i j h =
     elim (cases_order x y) [
       | inl e ↦
@@ -73,11 +72,7 @@ has_member-filter p set n = any-filter_same (λ x. x == n) p (p n) (λ x e. ap p
 pub IsIncreasing-filter : (p : ℕ → Bool) (first last : ℕ) (set : List ℕ) → IsIncreasing first last set → IsIncreasing first last (filter p set)
 IsIncreasing-filter p first last [] i = i
 IsIncreasing-filter p first last (x ∷ xs) i =
-    let rest = IsIncreasing-filter p (x + 1) last xs i.2 in
-    elim (p x) as (λ b. IsIncreasing first last (cond b (x ∷ filter p xs) (filter p xs))) [
-      | true ↦ (i.0, i.1, rest)
-      | false ↦ IsIncreasing-lower first (x + 1) last (filter p xs) (omega (arith, i.0)) rest
-    ]
+    grind (arith, common_steps, IsIncreasing-filter p (x + 1) last xs i.2, IsIncreasing-lower)
 
 -- what an insertion adds
 pub with_member-lt : (x : ℕ) (xs : List ℕ) (n : ℕ) → n < x → with_member (x ∷ xs) n ≡ n ∷ x ∷ xs
@@ -92,13 +87,7 @@ with_member-gt x xs n h = rw (le-ltb n x (omega arith), ne_eqb n x (λ e. omega 
 pub has_member-with_member : (set : List ℕ) (n k : ℕ) → has_member (with_member set n) k ≡ ((n == k) || has_member set k)
 has_member-with_member [] n k = refl
 has_member-with_member (x ∷ xs) n k =
-    elim (cases_order n x) [
-      | inl e ↦ rw (with_member-eq x xs n e, e) (or_twice (x == k) (has_member xs k))
-      | inr d ↦ elim d [
-        | inl less ↦ rw (with_member-lt x xs n less)
-        | inr more ↦ rw (with_member-gt x xs n more, has_member-with_member xs n k) (or_turned (x == k) (n == k) (has_member xs k))
-      ]
-    ]
+    grind (arith, common_steps, has_member-with_member xs n k, cases_order, with_member-eq, or_twice, with_member-lt, with_member-gt, or_turned)
 
 pub IsIncreasing-with_member : (first last : ℕ) (set : List ℕ) (n : ℕ) → first ≤ n → n ≤ last → IsIncreasing first last set → IsIncreasing first last (with_member set n)
 IsIncreasing-with_member first last [] n l h i = (l, h, tt)

@@ -1,7 +1,8 @@
 -- What is later than a list, among lists in order: the last of them.
+use Rattle.std.proofs.lemmas.Grind.{common_steps}
 use Rattle.std.proofs.Common.{◌≡◌, ℕ, suc, ◌==◌, Bool, true, false, cond, List, [], ◌∷◌, ◌++◌, refl, sym, ap, ◌∙◌, arith, length, filter, Ordering, Less, Equal, Greater, Some, AllPairs}
 use Rattle.std.specs.List.{AllByRecursion}
-use Rattle.std.specs.Ordering.{nat_cmp, is_gt, ordering_reverse}
+use Rattle.std.specs.Ordering.{nat_cmp, is_gt}
 use Rattle.std.specs.Cmp.Lexicographic.{slice_cmp}
 use Rattle.std.proofs.lemmas.Bool.{eq-eqb, eqb-true, and_from, and_parts, and_right}
 use Rattle.std.proofs.lemmas.Cmp.{nat_list_cmp_total, tied_itself}
@@ -19,21 +20,14 @@ greater_from_test Greater e = refl
 -- x is as long as y, and y comes before it
 pub IsLater-parts : (x y : List ℕ) → IsLater x y → (length x ≡ length y) × (slice_cmp nat_cmp y x ≡ Less)
 IsLater-parts x y later =
-    let parts = and_parts (length x == length y) (is_gt (slice_cmp nat_cmp x y)) later in (
-      eqb-true (length x) (length y) parts.0,
-      nat_list_cmp_total.antisymm y x ∙ ap ordering_reverse (greater_from_test (slice_cmp nat_cmp x y) parts.1),
-    )
+    grind (arith, common_steps, and_parts, eqb-true, nat_list_cmp_total, greater_from_test)
 
 pub IsLater-from_parts : (x y : List ℕ) → length x ≡ length y → slice_cmp nat_cmp y x ≡ Less → IsLater x y
-IsLater-from_parts x y long less =
-    and_from (length x == length y) (is_gt (slice_cmp nat_cmp x y)) (eq-eqb (length x) (length y) long)
-    (ap is_gt (nat_list_cmp_total.antisymm x y ∙ ap ordering_reverse less))
+IsLater-from_parts x y long less = grind (arith, common_steps, and_from, eq-eqb, nat_list_cmp_total)
 
 pub IsLater-trans : (x y z : List ℕ) → IsLater x y → IsLater y z → IsLater x z
 IsLater-trans x y z first second =
-    let xy = IsLater-parts x y first in
-    let yz = IsLater-parts y z second in
-    IsLater-from_parts x z (xy.0 ∙ yz.0) (nat_list_cmp_total.trans z y x yz.1 xy.1)
+    grind (arith, common_steps, IsLater-parts, IsLater-from_parts, nat_list_cmp_total)
 
 -- nothing is later than itself, nor than what is later than it
 pub is_later-self : (x : List ℕ) → is_later x x ≡ false

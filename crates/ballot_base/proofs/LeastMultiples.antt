@@ -1,5 +1,6 @@
 -- Least common multiples: what the definition gives, and that Euclid's steps give it.
-use Rattle.std.proofs.Common.{◌≡◌, ℕ, zero, suc, ◌+◌, ◌-◌, ◌*◌, ◌/◌, ◌%◌, ◌^◌, ◌<◌, ◌≤◌, ◌==◌, Bool, true, false, cond, Some, None, refl, sym, ap, ◌∙◌, subst, arith, find, unwrap_or, inl, inr, lit<, lit≤}
+use Rattle.std.proofs.lemmas.Grind.{common_steps}
+use Rattle.std.proofs.Common.{◌≡◌, ℕ, zero, suc, ◌+◌, ◌-◌, ◌*◌, ◌/◌, ◌%◌, ◌^◌, ◌<◌, ◌≤◌, ◌==◌, Bool, true, false, sym, ap, ◌∙◌, subst, arith, find, unwrap_or, inl, inr, lit<, lit≤}
 use Rattle.std.proofs.Math.Nat.{dvd-mul_left, dvd-mul_right, dvd_of_mul-dvd-mul_left, dvd_of_mul-dvd-mul_right, dvd-add_iff_right, mul-dvd-mul_left, mul-dvd-mul_right, mul-div_cancel', pos_of_dvd_of_pos, dvd-mul_right_of_dvd, mul-le-mul, one-dvd}
 use Rattle.std.proofs.lemmas.Nat.Gcd.{dvd_trans, dvd_antisymm, le_of_dvd, dvd_of_mod-eq-zero, mod-eq-zero_of_dvd, IsGcd-from_mod}
 use Rattle.std.proofs.lemmas.Bool.{eq-eqb, eqb-true, cases_order}
@@ -15,24 +16,9 @@ record IsFirst (p : ℕ → Bool) (first found : ℕ) : Type 0 where
   others : (t : ℕ) → first ≤ t → t < found → p t ≡ false
 
 first_found : (p : ℕ → Bool) (count first last : ℕ) → last ≡ first + count → p last ≡ true → IsFirst p first (unwrap_or (find p (range_with_len first (suc count))) last)
-first_found p zero first last is here = by (p first) refl
-  where
-    by : (b : Bool) → p first ≡ b → IsFirst p first (unwrap_or (cond b (Some first) None) last)
-    by true e = record { low = omega arith; passes = e; others = λ t l h. absurd (omega arith) }
-    by false e = let same : last ≡ first = omega (arith, is) in let wrong : true ≡ false = sym here ∙ ap p same ∙ e in cc
-first_found p (suc count) first last is here = by (p first) refl (first_found p count (first + 1) last (omega (arith, is)) here)
-  where
-    by : (b : Bool) → p first ≡ b → IsFirst p (first + 1) (unwrap_or (find p (range_with_len (first + 1) (suc count))) last)
-        → IsFirst p first (unwrap_or (cond b (Some first) (find p (range_with_len (first + 1) (suc count)))) last)
-    by true e rest = record { low = omega arith; passes = e; others = λ t l h. absurd (omega arith) }
-    by false e rest = record {
-      low = omega (arith, rest.low);
-      passes = rest.passes;
-      others = λ t l h. elim (cases_order t first) [
-        | inl same ↦ ap p same ∙ e
-        | inr d ↦ elim d [ inl less ↦ absurd (omega arith) | inr more ↦ rest.others t (omega arith) h ]
-      ];
-    }
+first_found p zero first last is here = grind (arith, common_steps)
+first_found p (suc count) first last is here =
+    grind (arith, common_steps, first_found p count (first + 1) last (omega (arith, is)) here, cases_order)
 
 -- l is the least common multiple of a and b
 pub record IsLeast (a b l : ℕ) : Type 0 where

@@ -1,4 +1,5 @@
 -- Lists of anything: what is true of all elements, and which elements a list has.
+use Rattle.std.proofs.lemmas.Grind.{common_steps}
 use Rattle.std.proofs.Common.{◌≡◌, ℕ, zero, suc, ◌+◌, ◌<◌, ◌≤◌, ◌&&◌, ◌++◌, ◌∙◌, Bool, List, [], ◌∷◌, refl, ap, arith, inl, inr, map, Contains}
 use Rattle.std.specs.List.{AllByRecursion, flat_map, list_all, range_with_len}
 use Rattle.std.proofs.lemmas.List.Elements.{Contains-append_cases}
@@ -35,8 +36,7 @@ pub Contains-from_map : {X Y : Type 0} (f : X → Y) (xs : List X) (y : Y) → C
 Contains-from_map f [] y c = absurd (omega (arith, c.1))
 Contains-from_map f (x ∷ xs) y (zero, inside, is) = (x, (0, omega arith, refl), is)
 Contains-from_map f (x ∷ xs) y (suc i, inside, is) =
-    let rest = Contains-from_map f xs y (i, omega (arith, inside), is) in
-    (rest.0, Contains-later x rest.0 xs rest.1, rest.2)
+    grind (arith, common_steps, Contains-from_map f xs y (i, omega (arith, inside), is), Contains-later)
 
 pub Contains-from_flat_map : {X Y : Type 0} (f : X → List Y) (xs : List X) (y : Y) → Contains (flat_map f xs) y → (x : X) × Contains xs x × Contains (f x) y
 Contains-from_flat_map f [] y c = absurd (omega (arith, c.1))

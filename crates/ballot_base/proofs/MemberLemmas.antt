@@ -1,5 +1,6 @@
 -- The first of the members that are left, and the others.
-use Rattle.std.proofs.Common.{◌≡◌, ℕ, ◌+◌, ◌≤◌, ◌==◌, ◌||◌, ◌∙◌, Bool, true, false, List, ◌∷◌, refl, sym, ap, arith}
+use Rattle.std.proofs.lemmas.Grind.{common_steps}
+use Rattle.std.proofs.Common.{◌≡◌, ℕ, ◌+◌, ◌≤◌, ◌∙◌, true, false, List, ◌∷◌, sym, ap, arith}
 use Rattle.ballot_base.specs.Limits.{most_candidates}
 use Rattle.ballot_base.specs.Lists.{IsIncreasing}
 use Rattle.ballot_base.specs.CandSet.{has_member}
@@ -10,11 +11,7 @@ module _ (left rest : List ℕ) (first : ℕ) (is : left ≡ first ∷ rest) (up
   first-in = ap (λ l. has_member l first) is ∙ has_member_head first rest
 
   pub later-in : (n : ℕ) → has_member rest n ≡ true → has_member left n ≡ true
-  later-in n later = ap (λ l. has_member l n) is ∙ or-true (first == n) (has_member rest n) later
-    where
-      or-true : (p q : Bool) → q ≡ true → (p || q) ≡ true
-      or-true true q h = refl
-      or-true false q h = h
+  later-in n later = grind (arith, common_steps)
 
   pub first-gone : has_member rest first ≡ false
   first-gone = let at : IsIncreasing 1 most_candidates (first ∷ rest) = rw is at up in has_member-below (first + 1) most_candidates rest first at.2 (omega arith)

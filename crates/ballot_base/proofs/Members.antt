@@ -1,4 +1,5 @@
 -- The members of a word: an increasing list, in which a number stands where its bit is 1.
+use Rattle.std.proofs.lemmas.Grind.{common_steps}
 use Rattle.std.proofs.Common.{◌≡◌, ℕ, zero, suc, ◌+◌, ◌-◌, ◌*◌, ◌/◌, ◌%◌, ◌^◌, ◌<◌, ◌≤◌, ◌==◌, ◌&&◌, ◌||◌, ◌⊎◌, not, min, max, bit_and, bit_or, bit_xor, w64, false, List, [], ◌∷◌, refl, sym, ap, ◌∙◌, subst, arith, inl, inr}
 use Rattle.std.specs.Int.{bit_at}
 use Rattle.std.proofs.lemmas.Bool.{eq-eqb, eqb-true, ne_eqb, cases_eq, cases_lt, or_left, and_left, and_right, not_from_true}
@@ -30,11 +31,7 @@ members_among_none first bits = refl
 pub IsIncreasing-members_among : (first count last bits : ℕ) → first + count ≤ last + 1 → IsIncreasing first last (members_among first count bits)
 IsIncreasing-members_among first zero last bits h = rw members_among_none tt
 IsIncreasing-members_among first (suc count) last bits h =
-    let rest : IsIncreasing (first + 1) last (members_among (first + 1) count bits) = IsIncreasing-members_among (first + 1) count last bits (omega arith) in
-    elim (cases_eq (bit_at bits (first - 1)) 1) [
-      | inl one ↦ rw (members_among_yes first count bits one) (omega arith, omega arith, rest)
-      | inr other ↦ rw (members_among_no first count bits other) (IsIncreasing-lower first (first + 1) last _ (omega arith) rest)
-    ]
+    grind (arith, common_steps, IsIncreasing-members_among (first + 1) count last bits (omega arith), cases_eq, members_among_yes, members_among_no, IsIncreasing-lower)
 
 pub has_member-members_among : (first count bits n : ℕ) → first ≤ n → n < first + count → has_member (members_among first count bits) n ≡ (bit_at bits (n - 1) == 1)
 has_member-members_among first zero bits n low high = absurd (omega arith)
@@ -186,8 +183,7 @@ members_differing bits other =
 
 pub members_included : (bits other : ℕ) → other < 2 ^ most_candidates → (bit_and other bits == other) ≡ includes (members bits) (members other)
 members_included bits other small =
-    eqb-members (bit_and other bits) other (bound_of_and other bits small) small ∙ ap (λ set. bytes_eq set (members other)) (members_common other bits)
-    ∙ kept_whole (has_member (members bits)) (members other)
+    grind (arith, common_steps, eqb-members, bound_of_and, members_common, kept_whole)
 
 one_set : (a b : ℕ) → a < 2 → b < 2 → (min a (1 - b) == 1) ≡ (not (b == 1) && (a == 1))
 one_set zero zero h k = refl

@@ -1,5 +1,6 @@
 -- The word of the set after another one of its size.
-use Rattle.std.proofs.Common.{◌≡◌, ℕ, zero, suc, ◌+◌, ◌-◌, ◌*◌, ◌/◌, ◌^◌, ◌<◌, ◌≤◌, ◌==◌, false, min, max, List, [], ◌∷◌, ◌++◌, refl, sym, ap, ◌∙◌, subst, arith, inl, inr, length, filter, bit_and, bit_or, w64, append_assoc, append-nil, add-zero, zero-add}
+use Rattle.std.proofs.lemmas.Grind.{common_steps}
+use Rattle.std.proofs.Common.{◌≡◌, ℕ, zero, suc, ◌+◌, ◌-◌, ◌*◌, ◌/◌, ◌^◌, ◌<◌, ◌≤◌, ◌==◌, min, max, List, [], ◌∷◌, ◌++◌, refl, sym, ap, ◌∙◌, subst, arith, inl, inr, bit_and, bit_or, w64, append_assoc, append-nil, add-zero, zero-add}
 use Rattle.std.specs.Int.{bit_at}
 use Rattle.std.specs.List.{range_with_len}
 use Rattle.std.specs.Prelude.{nat_le}
@@ -24,28 +25,18 @@ ones_product (suc a) b some_a some_b = let less : suc a - 1 ≡ a = omega arith 
 
 -- the highest n bits of a word of 1s, moved down
 pub ones_shr : (n width : ℕ) → n ≤ width → (2 ^ width - 1) / 2 ^ (width - n) ≡ 2 ^ n - 1
-ones_shr n width within =
-    let whole : 2 ^ width ≡ 2 ^ n * 2 ^ (width - n) = let e : n + (width - n) ≡ width = omega arith in subst (λ w. 2 ^ w ≡ 2 ^ n * 2 ^ (width - n)) e (pow-add 2 n (width - n)) in
-    let parts : 2 ^ width - 1 ≡ (2 ^ n - 1) * 2 ^ (width - n) + (2 ^ (width - n) - 1) =
-    ap (λ w. w - 1) whole ∙ ones_product (2 ^ n) (2 ^ (width - n)) (pow_pos n) (pow_pos (width - n)) in
-    ap (λ w. w / 2 ^ (width - n)) parts ∙ shr_high (2 ^ n - 1) (width - n) (2 ^ (width - n) - 1) (omega (arith, pow_pos (width - n)))
+ones_shr n width within = grind (arith, common_steps, pow-add, ones_product, pow_pos, shr_high)
 
 -- ---- the greatest number of a word
 -- the greatest power of 2 that is no greater than the word stands for its greatest number
 pub greatest_is : (bits top last : ℕ) → 2 ^ top ≤ bits → bits < 2 * 2 ^ top → last ≡ top + 1
     → (bit_at bits (last - 1) ≡ 1) × ((i : ℕ) → last ≤ i → bit_at bits i ≡ 0)
 greatest_is bits top last low high is =
-    let two : 2 ^ (top + 1) ≡ 2 ^ top * 2 = pow-add 2 top 1 in
-    let back : last - 1 ≡ top = omega arith in
-    let parts : bits ≡ 1 * 2 ^ top + (bits - 2 ^ top) = omega arith in
-    let one : bit_at bits top ≡ 1 =
-    ap (λ n. bit_at n top) parts ∙ (bit_at_cat_high 1 top (bits - 2 ^ top) top (omega arith) (omega arith) ∙ ap (bit_at 1) (let z : top - top ≡ 0 = omega arith in z)) in
-    (ap (bit_at bits) back ∙ one, λ i h. bit_at_above bits (top + 1) i (omega arith) (omega arith))
+    grind (arith, common_steps, pow-add 2 top 1, bit_at_cat_high 1 top (bits - 2 ^ top) top (omega arith) (omega arith), bit_at_above)
 
 -- a word of few bits has no great number
 pub greatest_most : (most bits top : ℕ) → 2 ^ top ≤ bits → bits < 2 ^ most → top + 1 ≤ most
-greatest_most most bits top low high =
-    elim (cases_lt top most) [ inl h ↦ omega arith | inr h ↦ absurd (omega (arith, pow_mono {i = most} {j = top} h)) ]
+greatest_most most bits top low high = grind (arith, common_steps, cases_lt, pow_mono)
 
 -- ---- runs of members
 range-append : (a i j : ℕ) → range_with_len a (i + j) ≡ range_with_len a i ++ range_with_len (a + i) j
@@ -57,8 +48,7 @@ range-append a (suc i) j =
 
 pub members_among-append : (first i j bits : ℕ) → members_among first (i + j) bits ≡ members_among first i bits ++ members_among (first + i) j bits
 unfolding members_among
-members_among-append first i j bits =
-    ap (filter (λ n. bit_at bits (n - 1) == 1)) (range-append first i j) ∙ filter-append (λ n. bit_at bits (n - 1) == 1) (range_with_len first i) (range_with_len (first + i) j)
+members_among-append first i j bits = grind (arith, common_steps, range-append, filter-append)
 
 pub members_among_full : (first count bits : ℕ) → ((n : ℕ) → first ≤ n → n < first + count → bit_at bits (n - 1) ≡ 1) → members_among first count bits ≡ range_with_len first count
 members_among_full first zero bits h = members_among_none first bits
@@ -106,17 +96,12 @@ stacked a b low from run l h same gap full rest =
 -- ---- the two words
 -- a set that is a run up to m is the last of its size
 IsLastSet-from_run : (m from run : ℕ) (set : List ℕ) → set ≡ range_with_len from run → from + run ≡ m + 1 → IsLastSet m set
-IsLastSet-from_run m from run set e h =
-    let long : length set ≡ run = ap length e ∙ length-range_with_len from run in
-    let low : m + 1 - run ≡ from = omega arith in
-    rw (long, low) e
+IsLastSet-from_run m from run set e h = grind (arith, common_steps, length-range_with_len)
 
 -- a set of the numbers 1 to m has none above m
 none_above : (bits m : ℕ) → IsIncreasing 1 m (members bits) → (n : ℕ) → 1 ≤ n → m < n → n ≤ most_candidates → bit_at bits (n - 1) ≡ 0
 none_above bits m i n low h high =
-    let no : (bit_at bits (n - 1) == 1) ≡ false = sym (has_member-members bits n low high) ∙ has_member-above 1 m (members bits) n i h in
-    let ne : bit_at bits (n - 1) ≡ 1 → ⊥ = eqb-false (bit_at bits (n - 1)) 1 no in
-    omega (arith, ne, bit_at-lt bits (n - 1))
+    grind (arith, common_steps, has_member-members bits n low high, has_member-above 1 m (members bits) n i h, eqb-false, bit_at-lt bits (n - 1))
 
 -- the numbers 1 to m that a word has not
 absent_bit : (bits m i : ℕ) → bits < 2 ^ most_candidates → m ≤ most_candidates → i < most_candidates → bit_at (bit_and (2 ^ m - 1) (2 ^ 64 - 1 - bits)) i ≡ min (bit_at (2 ^ m - 1) i) (1 - bit_at bits i)
@@ -140,17 +125,7 @@ free_none bits m b h e = record {
 
 free_some : (bits m f : ℕ) → bits < 2 ^ most_candidates → m ≤ most_candidates → 1 ≤ f → f ≤ most_candidates → bit_at (bit_and (2 ^ m - 1) (2 ^ 64 - 1 - bits)) (f - 1) ≡ 1 → ((i : ℕ) → f ≤ i → bit_at (bit_and (2 ^ m - 1) (2 ^ 64 - 1 - bits)) i ≡ 0) → IsFree bits m f
 free_some bits m f b h low high here clear =
-    let w = absent_bit bits m (f - 1) b h (omega arith) in
-    record {
-      most = elim (cases_lt m f) [
-        | inl over ↦ absurd (omega (arith, w, here, bit_at_ones_above m (f - 1) (omega arith)))
-        | inr within ↦ within
-      ];
-      absent = λ p. omega (arith, w, here, bit_at-lt bits (f - 1));
-      above = λ n l u.
-          let v = absent_bit bits m (n - 1) b h (omega arith) in
-          omega (arith, v, clear (n - 1) (omega arith), bit_at_ones m (n - 1) (omega arith), bit_at-lt bits (n - 1));
-    }
+    grind (arith, common_steps, absent_bit, cases_lt, bit_at_ones_above, bit_at-lt, bit_at_ones)
 
 -- a set above whose free numbers all are members, and below them none, is the last
 pub last_if_none_free : (bits m : ℕ) → bits < 2 ^ most_candidates → m ≤ most_candidates → IsIncreasing 1 m (members bits) → bit_and (2 ^ m - 1) (2 ^ 64 - 1 - bits) ≡ 0 → IsLastSet m (members bits)
@@ -188,17 +163,7 @@ pub record IsGrowing (bits f l : ℕ) : Type 0 where
   pub gap : (n : ℕ) → l < n → n < f → bit_at bits (n - 1) ≡ 0
 
 growing_from : (bits f l : ℕ) → 1 ≤ f → 1 ≤ l → bit_at (bit_and bits (2 ^ (f - 1) - 1)) (l - 1) ≡ 1 → ((i : ℕ) → l ≤ i → bit_at (bit_and bits (2 ^ (f - 1) - 1)) i ≡ 0) → IsGrowing bits f l
-growing_from bits f l some low here clear =
-    let less : l < f = elim (cases_lt l f) [
-      | inl under ↦ under
-      | inr over ↦ absurd (omega (arith, here, below_out bits (f - 1) (l - 1) (omega arith)))
-    ] in
-    record {
-      low = low;
-      less = less;
-      member = sym (below_in bits (f - 1) (l - 1) (omega arith)) ∙ here;
-      gap = λ n k u. sym (below_in bits (f - 1) (n - 1) (omega arith)) ∙ clear (n - 1) (omega arith);
-    }
+growing_from bits f l some low here clear = grind (arith, common_steps, cases_lt, below_out, below_in)
 
 -- the word of the next set
 pub grown : ℕ → ℕ → ℕ → ℕ → ℕ
@@ -209,20 +174,16 @@ unfolding grown
 grown_bit bits m f l i = bit_at_or (bit_and (bit_and bits (2 ^ (f - 1) - 1)) (2 ^ (l - 1) - 1)) (2 ^ (l + 1 + (m - f)) - 2 ^ l) i
 
 grown_below : (bits m f l i : ℕ) → l < f → i < l - 1 → bit_at (grown bits m f l) i ≡ bit_at bits i
-grown_below bits m f l i g h =
-    omega (arith, grown_bit bits m f l i, below_in (bit_and bits (2 ^ (f - 1) - 1)) (l - 1) i h, below_in bits (f - 1) i (omega arith), bit_at_mask_below l (l + 1 + (m - f)) i (omega arith))
+grown_below bits m f l i g h = grind (arith, common_steps, grown_bit, below_in, bit_at_mask_below)
 
 grown_gap : (bits m f l i : ℕ) → l - 1 ≤ i → i < l → bit_at (grown bits m f l) i ≡ 0
-grown_gap bits m f l i g h =
-    omega (arith, grown_bit bits m f l i, below_out (bit_and bits (2 ^ (f - 1) - 1)) (l - 1) i g, bit_at_mask_below l (l + 1 + (m - f)) i h)
+grown_gap bits m f l i g h = grind (arith, common_steps, grown_bit, below_out, bit_at_mask_below)
 
 grown_run : (bits m f l i : ℕ) → l ≤ i → i < l + 1 + (m - f) → bit_at (grown bits m f l) i ≡ 1
-grown_run bits m f l i g h =
-    omega (arith, grown_bit bits m f l i, below_out (bit_and bits (2 ^ (f - 1) - 1)) (l - 1) i (omega arith), bit_at_mask_inside l (l + 1 + (m - f)) i g h)
+grown_run bits m f l i g h = grind (arith, common_steps, grown_bit, below_out, bit_at_mask_inside)
 
 grown_above : (bits m f l i : ℕ) → l + 1 + (m - f) ≤ i → bit_at (grown bits m f l) i ≡ 0
-grown_above bits m f l i g =
-    omega (arith, grown_bit bits m f l i, below_out (bit_and bits (2 ^ (f - 1) - 1)) (l - 1) i (omega arith), bit_at_mask_above l (l + 1 + (m - f)) i g)
+grown_above bits m f l i g = grind (arith, common_steps, grown_bit, below_out, bit_at_mask_above)
 
 members_grown : (bits m f l : ℕ) → m ≤ most_candidates → f ≤ m → IsGrowing bits f l → members (grown bits m f l) ≡ members_among 1 (l - 1) bits ++ range_with_len (l + 1) (suc (m - f))
 members_grown bits m f l h most g =
@@ -269,9 +230,7 @@ last_if_none_below bits m word f h e low i free = rw e (last_if_none_below_free 
 
 pub grown_is : (bits m f l below low high last : ℕ) → below ≡ 2 ^ (f - 1) - 1 → low ≡ 2 ^ (l - 1) - 1 → high ≡ 2 ^ (l + 1 + (m - f)) - 1 → last ≡ 2 ^ l - 1 → bit_or (bit_and (bit_and bits below) low) (high - last) ≡ grown bits m f l
 unfolding grown
-grown_is bits m f l below low high last d e h k =
-    let run : high - last ≡ 2 ^ (l + 1 + (m - f)) - 2 ^ l = omega (arith, h, k, pow_pos l) in
-    rw (d, e, run)
+grown_is bits m f l below low high last d e h k = grind (arith, common_steps, pow_pos)
 
 pub bound_of_grown : (bits m f l : ℕ) → bits < 2 ^ most_candidates → m ≤ most_candidates → f ≤ m → l < f → grown bits m f l < 2 ^ most_candidates
 unfolding grown

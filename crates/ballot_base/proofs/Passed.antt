@@ -1,5 +1,6 @@
 -- Candidates who pass a test, one after another.
-use Rattle.std.proofs.Common.{◌≡◌, ℕ, ◌+◌, ◌≤◌, ◌==◌, ◌&&◌, ◌||◌, ◌⊎◌, ◌∙◌, Bool, true, false, not, List, [], ◌∷◌, sym, ap, arith, inl, inr, filter}
+use Rattle.std.proofs.lemmas.Grind.{common_steps}
+use Rattle.std.proofs.Common.{◌≡◌, ℕ, ◌≤◌, ◌&&◌, ◌||◌, ◌∙◌, Bool, true, false, List, [], ◌∷◌, sym, arith, filter}
 use Rattle.std.proofs.lemmas.Bool.{and_from, and_parts, cases_eq, cases_lt, eq-eqb, ne_eqb}
 use Rattle.std.proofs.Math.Bool.{and-false, and_comm, or-true}
 use Rattle.ballot_base.specs.Lists.{IsIncreasing}
@@ -15,16 +16,11 @@ filter-stays p set n is passes = has_member-filter p set n ∙ and_from (p n) (h
 
 -- a member is at most the last number
 pub member-high : (first last : ℕ) (set : List ℕ) (n : ℕ) → IsIncreasing first last set → has_member set n ≡ true → n ≤ last
-member-high first last set n up here = elim (cases_lt last n) [
-  | inl high ↦ absurd (let e : true ≡ false = sym here ∙ has_member-above first last set n up high in cc)
-  | inr low ↦ omega arith
-]
+member-high first last set n up here = grind (arith, common_steps, cases_lt, has_member-above)
 
 -- the first of the members, and the others
 pub rest-up : (last first : ℕ) (xs rest : List ℕ) → xs ≡ first ∷ rest → IsIncreasing 1 last xs → (first ≤ last) × IsIncreasing 1 last rest × (has_member rest first ≡ false)
-rest-up last first xs rest is up =
-    let at : IsIncreasing 1 last (first ∷ rest) = rw is at up in
-    (at.1, IsIncreasing-lower 1 (first + 1) last rest (omega arith) at.2, has_member-below (first + 1) last rest first at.2 (omega arith))
+rest-up last first xs rest is up = grind (arith, common_steps, IsIncreasing-lower, has_member-below)
 
 module _ (p : ℕ → Bool) (candidates : List ℕ) where
   -- Of the candidates that were passed, those are left who pass the test.
@@ -32,24 +28,11 @@ module _ (p : ℕ → Bool) (candidates : List ℕ) where
   AreLeft set rest = (n : ℕ) → has_member set n ≡ (has_member candidates n && (has_member rest n || p n))
 
   pub one-gone : (set rest : List ℕ) (first : ℕ) → p first ≡ false → has_member rest first ≡ false → AreLeft set (first ∷ rest) → AreLeft (without_member set first) rest
-  one-gone set rest first fails out left n = has_member-filter (λ x. not (x == first)) set n ∙ ap (λ b. not (n == first) && b) (left n) ∙ by (cases_eq n first)
-    where
-      by : (n ≡ first) ⊎ (n ≡ first → ⊥) → (not (n == first) && (has_member candidates n && (((first == n) || has_member rest n) || p n))) ≡ (has_member candidates n && (has_member rest n || p n))
-      by (inl same) =
-          ap (λ b. not b && (has_member candidates n && (((first == n) || has_member rest n) || p n))) (eq-eqb n first same)
-          ∙ sym (ap (λ b. has_member candidates n && (b || p n)) (ap (has_member rest) same ∙ out) ∙ ap (λ b. has_member candidates n && b) (ap p same ∙ fails) ∙ and-false (has_member candidates n))
-      by (inr other) =
-          ap (λ b. not b && (has_member candidates n && (((first == n) || has_member rest n) || p n))) (ne_eqb n first other)
-          ∙ ap (λ b. has_member candidates n && ((b || has_member rest n) || p n)) (ne_eqb first n (λ e. other (sym e)))
+  one-gone set rest first fails out left n =
+      grind (arith, common_steps, has_member-filter, cases_eq, eq-eqb, and-false, ne_eqb)
 
   pub one-kept : (set rest : List ℕ) (first : ℕ) → p first ≡ true → AreLeft set (first ∷ rest) → AreLeft set rest
-  one-kept set rest first passes left n = left n ∙ by (cases_eq n first)
-    where
-      by : (n ≡ first) ⊎ (n ≡ first → ⊥) → (has_member candidates n && (((first == n) || has_member rest n) || p n)) ≡ (has_member candidates n && (has_member rest n || p n))
-      by (inl same) =
-          ap (λ b. has_member candidates n && ((b || has_member rest n) || p n)) (eq-eqb first n (sym same))
-          ∙ sym (ap (λ b. has_member candidates n && (has_member rest n || b)) (ap p same ∙ passes) ∙ ap (λ b. has_member candidates n && b) (or-true (has_member rest n)))
-      by (inr other) = ap (λ b. has_member candidates n && ((b || has_member rest n) || p n)) (ne_eqb first n (λ e. other (sym e)))
+  one-kept set rest first passes left n = grind (arith, common_steps, cases_eq, eq-eqb, or-true, ne_eqb)
 
   pub all-left : (last : ℕ) (set : List ℕ) → IsIncreasing 1 last candidates → IsIncreasing 1 last set → AreLeft set [] → set ≡ filter p candidates
   all-left last set up up' left =

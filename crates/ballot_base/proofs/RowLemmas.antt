@@ -1,5 +1,6 @@
 -- Rows of ballots: what adding votes does, by the words of a map and by our own.
-use Rattle.std.proofs.Common.{◌≡◌, ℕ, ◌+◌, ◌<◌, ◌≤◌, ◌||◌, Bool, true, false, not, cond, List, [], ◌∷◌, Option, Some, None, refl, sym, ap, ◌∙◌, arith, zero, suc, ◌≢◌, ◌++◌, length, get_or, AllPairs}
+use Rattle.std.proofs.lemmas.Grind.{common_steps}
+use Rattle.std.proofs.Common.{◌≡◌, ℕ, ◌+◌, ◌<◌, ◌≤◌, Bool, true, false, cond, List, [], ◌∷◌, Option, Some, None, refl, sym, ap, ◌∙◌, arith, zero, suc, ◌≢◌, ◌++◌, length, get_or, AllPairs}
 use Rattle.std.specs.List.{AllByRecursion, position_or_len}
 use Rattle.std.specs.Str.{bytes_eq}
 use Rattle.std.specs.Cmp.Lexicographic.{bytes_decides}
@@ -20,46 +21,23 @@ later_value row rows i n = let e : 1 + i ≡ suc i = omega arith in ap (λ k. se
 module _ (ballot : List ℕ) (count : ℕ) where
   pub has_ballot-absent : (rows : List Row) → lookup (bytes_eq ballot) rows ≡ None → has_ballot rows ballot ≡ false
   has_ballot-absent [] none = refl
-  has_ballot-absent (row ∷ rows) none = by (bytes_eq ballot row.0) none (has_ballot-absent rows)
-    where
-      by : (b : Bool) → cond b (Some row.1) (lookup (bytes_eq ballot) rows) ≡ None
-          → (lookup (bytes_eq ballot) rows ≡ None → has_ballot rows ballot ≡ false) → (b || has_ballot rows ballot) ≡ false
-      by true found more = absurd (cc)
-      by false found more = more found
+  has_ballot-absent (row ∷ rows) none = grind (arith, common_steps, has_ballot-absent rows)
 
   with_votes-new : (rows : List Row) → lookup (bytes_eq ballot) rows ≡ None → insert_entry bytes_eq rows ballot count ≡ with_votes rows ballot count
   with_votes-new [] none = refl
-  with_votes-new (row ∷ rows) none = by (bytes_eq ballot row.0) none (with_votes-new rows)
-    where
-      by : (b : Bool) → cond b (Some row.1) (lookup (bytes_eq ballot) rows) ≡ None
-          → (lookup (bytes_eq ballot) rows ≡ None → insert_entry bytes_eq rows ballot count ≡ with_votes rows ballot count)
-          → cond b ((row.0, count) ∷ rows) (row ∷ insert_entry bytes_eq rows ballot count)
-          ≡ cond b ((row.0, row.1 + count) ∷ rows) (row ∷ with_votes rows ballot count)
-      by true found more = absurd (cc)
-      by false found more = ap (λ l. row ∷ l) (more found)
+  with_votes-new (row ∷ rows) none = grind (arith, common_steps, with_votes-new rows)
 
   with_votes-old : (rows : List Row) (before : ℕ) → lookup (bytes_eq ballot) rows ≡ Some before
       → set_value_at (insert_entry bytes_eq rows ballot count) (position_or_len (bytes_eq ballot) (keys_of rows)) (before + count) ≡ with_votes rows ballot count
   with_votes-old [] before some = absurd (cc)
-  with_votes-old (row ∷ rows) before some = by (bytes_eq ballot row.0) some (with_votes-old rows before)
-    where
-      by : (b : Bool) → cond b (Some row.1) (lookup (bytes_eq ballot) rows) ≡ Some before
-          → (lookup (bytes_eq ballot) rows ≡ Some before → set_value_at (insert_entry bytes_eq rows ballot count) (position_or_len (bytes_eq ballot) (keys_of rows)) (before + count) ≡ with_votes rows ballot count)
-          → set_value_at (cond b ((row.0, count) ∷ rows) (row ∷ insert_entry bytes_eq rows ballot count)) (cond (not b) (1 + position_or_len (bytes_eq ballot) (keys_of rows)) 0) (before + count)
-          ≡ cond b ((row.0, row.1 + count) ∷ rows) (row ∷ with_votes rows ballot count)
-      by true found more = let same_count : row.1 ≡ before = cc in ap (λ n. (row.0, n + count) ∷ rows) (sym same_count)
-      by false found more =
-          later_value row (insert_entry bytes_eq rows ballot count) (position_or_len (bytes_eq ballot) (keys_of rows)) (before + count)
-          ∙ ap (λ l. row ∷ l) (more found)
+  with_votes-old (row ∷ rows) before some =
+      grind (arith, common_steps, with_votes-old rows before, later_value)
 
   -- the same, of a map that `insert_full` has changed, where it found the voters of the row so far
   pub with_votes-put : (rows mid : List Row) (place before : ℕ) (found : Option ℕ) → mid ≡ insert_entry bytes_eq rows ballot count
       → place ≡ position_or_len (bytes_eq ballot) (keys_of rows) → found ≡ lookup (bytes_eq ballot) rows → found ≡ Some before
       → set_value_at mid place (before + count) ≡ with_votes rows ballot count
-  with_votes-put rows mid place before found changed at old some =
-      ap (λ es. set_value_at es place (before + count)) changed
-      ∙ ap (λ i. set_value_at (insert_entry bytes_eq rows ballot count) i (before + count)) at
-      ∙ with_votes-old rows before (sym old ∙ some)
+  with_votes-put rows mid place before found changed at old some = grind (arith, common_steps, with_votes-old)
 
   pub with_votes-put_new : (rows mid : List Row) (found : Option ℕ) → mid ≡ insert_entry bytes_eq rows ballot count
       → found ≡ lookup (bytes_eq ballot) rows → found ≡ None → mid ≡ with_votes rows ballot count
@@ -68,12 +46,7 @@ module _ (ballot : List ℕ) (count : ℕ) where
   -- a row's voters are some of all
   count-le : (rows : List Row) (before : ℕ) → lookup (bytes_eq ballot) rows ≡ Some before → before ≤ voter_count rows
   count-le [] before some = absurd (cc)
-  count-le (row ∷ rows) before some = by (bytes_eq ballot row.0) some (count-le rows before)
-    where
-      by : (b : Bool) → cond b (Some row.1) (lookup (bytes_eq ballot) rows) ≡ Some before
-          → (lookup (bytes_eq ballot) rows ≡ Some before → before ≤ voter_count rows) → before ≤ voter_count (row ∷ rows)
-      by true found more = let same : row.1 ≡ before = cc in omega (arith, sum_by-cons (λ (r : Row). r.1) row rows)
-      by false found more = omega (arith, sum_by-cons (λ (r : Row). r.1) row rows, more found)
+  count-le (row ∷ rows) before some = grind (arith, common_steps, count-le rows before, sum_by-cons)
 
   pub count-le-put : (rows : List Row) (before : ℕ) (found : Option ℕ) → found ≡ lookup (bytes_eq ballot) rows → found ≡ Some before → before ≤ voter_count rows
   count-le-put rows before found old some = count-le rows before (sym old ∙ some)
@@ -83,44 +56,26 @@ module _ (ballot : List ℕ) (count : ℕ) where
 pub voter_count-with_votes : (rows : List Row) (ballot : List ℕ) (count : ℕ) → voter_count (with_votes rows ballot count) ≡ voter_count rows + count
 voter_count-with_votes [] ballot count = omega arith
 voter_count-with_votes (row ∷ rows) ballot count =
-    let more = voter_count-with_votes rows ballot count in
-    elim (bytes_eq ballot row.0) as (λ b. voter_count (cond b ((row.0, row.1 + count) ∷ rows) (row ∷ with_votes rows ballot count)) ≡ voter_count (row ∷ rows) + count) [
-      | true ↦ omega (arith, sum_by-cons (λ (r : Row). r.1) (row.0, row.1 + count) rows, sum_by-cons (λ (r : Row). r.1) row rows)
-      | false ↦ omega (arith, sum_by-cons (λ (r : Row). r.1) row (with_votes rows ballot count), sum_by-cons (λ (r : Row). r.1) row rows, more)
-    ]
+    grind (arith, common_steps, voter_count-with_votes rows ballot count, sum_by-cons)
 
 pub ballots-with_votes : (m : ℕ) (rows : List Row) (ballot : List ℕ) (count : ℕ) → IsIncreasing 1 m ballot
     → AllByRecursion (λ (row : Row). IsIncreasing 1 m row.0) rows → AllByRecursion (λ (row : Row). IsIncreasing 1 m row.0) (with_votes rows ballot count)
 ballots-with_votes m [] ballot count own all = (own, tt)
 ballots-with_votes m (row ∷ rows) ballot count own all =
-    let more = ballots-with_votes m rows ballot count own all.1 in
-    elim (bytes_eq ballot row.0) as (λ b. AllByRecursion (λ (r : Row). IsIncreasing 1 m r.0) (cond b ((row.0, row.1 + count) ∷ rows) (row ∷ with_votes rows ballot count))) [
-      | true ↦ (all.0, all.1)
-      | false ↦ (all.0, more)
-    ]
+    grind (arith, common_steps, ballots-with_votes m rows ballot count own all.1)
 
 pub counts-with_votes : (rows : List Row) (ballot : List ℕ) (count : ℕ) → 1 ≤ count
     → AllByRecursion (λ (row : Row). 0 < row.1) rows → AllByRecursion (λ (row : Row). 0 < row.1) (with_votes rows ballot count)
 counts-with_votes [] ballot count own all = (omega arith, tt)
 counts-with_votes (row ∷ rows) ballot count own all =
-    let more = counts-with_votes rows ballot count own all.1 in
-    elim (bytes_eq ballot row.0) as (λ b. AllByRecursion (λ (r : Row). 0 < r.1) (cond b ((row.0, row.1 + count) ∷ rows) (row ∷ with_votes rows ballot count))) [
-      | true ↦ (omega arith, all.1)
-      | false ↦ (all.0, more)
-    ]
+    grind (arith, common_steps, counts-with_votes rows ballot count own all.1)
 
 -- a ballot that is there keeps its place, and a new one comes last
 pub ballots_of-with_votes : (rows : List Row) (ballot : List ℕ) (count : ℕ)
     → ballots_of (with_votes rows ballot count) ≡ cond (has_ballot rows ballot) (ballots_of rows) (ballots_of rows ++ ballot ∷ [])
 ballots_of-with_votes [] ballot count = refl
-ballots_of-with_votes (row ∷ rows) ballot count = by (bytes_eq ballot row.0) (has_ballot rows ballot) (ballots_of-with_votes rows ballot count)
-  where
-    by : (here there : Bool) → ballots_of (with_votes rows ballot count) ≡ cond there (ballots_of rows) (ballots_of rows ++ ballot ∷ [])
-        → ballots_of (cond here ((row.0, row.1 + count) ∷ rows) (row ∷ with_votes rows ballot count))
-        ≡ cond (here || there) (row.0 ∷ ballots_of rows) (row.0 ∷ ballots_of rows ++ ballot ∷ [])
-    by true there more = refl
-    by false true more = ap (λ l. row.0 ∷ l) more
-    by false false more = ap (λ l. row.0 ∷ l) more
+ballots_of-with_votes (row ∷ rows) ballot count =
+    grind (arith, common_steps, ballots_of-with_votes rows ballot count)
 
 -- a ballot that nobody cast is none of the rows'
 others-from_has_ballot : (rows : List Row) (ballot : List ℕ) → has_ballot rows ballot ≡ false
@@ -149,23 +104,12 @@ some_voter (row ∷ rows) all some = let one = all.0 in omega (arith, sum_by-con
 -- an election with votes added
 pub IsElection-with_votes : (m : ℕ) (names : List (List ℕ)) (rows : List Row) (ballot : List ℕ) (count : ℕ) → IsElection (election m names rows) → IsIncreasing 1 m ballot → 1 ≤ count
     → voter_count rows + count ≤ most_voters → IsElection (election m names (with_votes rows ballot count))
-IsElection-with_votes m names rows ballot count valid own some room = record {
-  least = valid.least;
-  most = valid.most;
-  names = valid.names;
-  ballots = ballots-with_votes m rows ballot count own valid.ballots;
-  distinct = distinct-with_votes rows ballot count valid.distinct;
-  counts = counts-with_votes rows ballot count some valid.counts;
-  voters = omega (arith, voter_count-with_votes rows ballot count);
-}
+IsElection-with_votes m names rows ballot count valid own some room =
+    grind (arith, common_steps, ballots-with_votes, distinct-with_votes, counts-with_votes, voter_count-with_votes)
 
 -- the same, with its number of voters
 pub IsCounted-with_votes : (m : ℕ) (names : List (List ℕ)) (rows new : List Row) (voters : ℕ) (ballot : List ℕ) (count : ℕ)
     → IsCounted (election m names rows) voters → IsIncreasing 1 m ballot → 1 ≤ count → voters + count ≤ most_voters
     → new ≡ with_votes rows ballot count → IsCounted (election m names new) (voters + count)
 IsCounted-with_votes m names rows new voters ballot count counted own some room is =
-    let all : voter_count rows + count ≤ most_voters = omega (arith, counted.total) in
-    rw is record {
-      valid = IsElection-with_votes m names rows ballot count counted.valid own some all;
-      total = omega (arith, counted.total, voter_count-with_votes rows ballot count);
-    }
+    grind (arith, common_steps, IsElection-with_votes, voter_count-with_votes)

@@ -1,5 +1,6 @@
 -- Sums of the worths of candidates.
-use Rattle.std.proofs.Common.{◌≡◌, ℕ, zero, suc, ◌+◌, ◌-◌, ◌*◌, ◌≤◌, ◌==◌, ◌&&◌, ◌||◌, ◌∙◌, Bool, true, false, cond, List, [], ◌∷◌, refl, sym, ap, arith, inl, inr, length, filter, get_or, replicate, sum_by}
+use Rattle.std.proofs.lemmas.Grind.{common_steps}
+use Rattle.std.proofs.Common.{◌≡◌, ℕ, zero, suc, ◌+◌, ◌-◌, ◌*◌, ◌≤◌, ◌==◌, ◌&&◌, ◌||◌, ◌∙◌, Bool, true, false, List, [], ◌∷◌, refl, sym, ap, arith, inl, inr, length, filter, get_or, replicate, sum_by}
 use Rattle.std.proofs.lemmas.Bool.{cases_eq}
 use Rattle.std.proofs.lemmas.List.Sums.{sum_by-cons}
 use Rattle.ballot_base.specs.Lists.{IsIncreasing}
@@ -59,10 +60,7 @@ sum-member f g t n (x ∷ xs) less here = elim (cases_eq x n) [
 
 pub sum-part : (f : ℕ → ℕ) (p : ℕ → Bool) (xs : List ℕ) → sum_by f (filter p xs) ≤ sum_by f xs
 sum-part f p [] = omega arith
-sum-part f p (x ∷ xs) = elim (p x) as (λ b. sum_by f (cond b (x ∷ filter p xs) (filter p xs)) ≤ sum_by f (x ∷ xs)) [
-  | true ↦ omega (arith, sum-part f p xs, sum_by-cons f x xs, sum_by-cons f x (filter p xs))
-  | false ↦ omega (arith, sum-part f p xs, sum_by-cons f x xs)
-]
+sum-part f p (x ∷ xs) = grind (arith, common_steps, sum-part f p xs, sum_by-cons)
 
 -- a sum over some of the members is no more than that over all
 pub sum-among : (f : ℕ → ℕ) (last : ℕ) (some all : List ℕ) → IsIncreasing 1 last some → IsIncreasing 1 last all → ((n : ℕ) → has_member some n ≡ true → has_member all n ≡ true)
@@ -93,9 +91,7 @@ pub sum-first : (f : ℕ → ℕ) (xs rest : List ℕ) (first : ℕ) → xs ≡ 
 sum-first f xs rest first is = ap (sum_by f) is ∙ sum_by-cons f first rest
 
 pub rest-increasing : (last : ℕ) (xs rest : List ℕ) (first : ℕ) → xs ≡ first ∷ rest → IsIncreasing 1 last xs → (first ≤ last) × IsIncreasing 1 last rest
-rest-increasing last xs rest first is up =
-    let at : IsIncreasing 1 last (first ∷ rest) = rw is at up in
-    (at.1, IsIncreasing-lower 1 (first + 1) last rest (omega arith) at.2)
+rest-increasing last xs rest first is up = grind (arith, common_steps, IsIncreasing-lower)
 
 pub replicate-most : (n i x most : ℕ) → x ≤ most → get_or {A = ℕ} (replicate n x) i 0 ≤ most
 replicate-most zero i x most small = omega arith

@@ -1,5 +1,6 @@
 -- The increments of Thiele's rules: what the list has at a place, that they never rise, that they are exact, and
 -- how large they are.
+use Rattle.std.proofs.lemmas.Grind.{common_steps}
 use Rattle.std.proofs.Common.{◌≡◌, ℕ, zero, suc, ◌+◌, ◌-◌, ◌*◌, ◌/◌, ◌^◌, ◌<◌, ◌≤◌, ◌==◌, true, false, cond, List, [], ◌∷◌, sym, ap, ◌∙◌, arith, add-one, take, get_or, length, sum, inl, inr}
 use Rattle.std.specs.Prelude.{nat_le}
 use Rattle.std.proofs.Math.Nat.{pow-le-pow_left, pow-le-pow_right, div-mul_cancel, div-le_self, div-mul-le_self}
@@ -36,10 +37,8 @@ increments-within rule k i h l = increments-weight rule k i h ∙ ap (λ b. cond
 
 pub increments-past : (rule : ThieleRule) (k i : ℕ) → k ≤ i → get_or (increments rule k) i 0 ≡ 0
 unfolding weight
-increments-past rule k i h = elim (cases_lt i most_members) [
-  | inl low ↦ increments-weight rule k i low ∙ ap (λ b. cond b (increment rule k (i + 1)) 0) (lt-leb (i + 1) k (omega arith))
-  | inr high ↦ get_or-eq_default (increments rule k) 0 (omega (arith, increments-length rule k, high))
-]
+increments-past rule k i h =
+    grind (arith, common_steps, cases_lt, increments-weight, lt-leb, get_or-eq_default, increments-length)
 
 -- a list that has the increments of 1 to k, and 0 after them
 pub increments-made : (rule : ThieleRule) (k : ℕ) (w : List ℕ) → k ≤ most_members → length w ≡ most_members → ((i : ℕ) → i < k → get_or w i 0 ≡ increment rule k (i + 1)) → ((i : ℕ) → k ≤ i → i < most_members → get_or w i 0 ≡ 0)
@@ -67,10 +66,8 @@ increment-falls Geom3 k j h = power-falls 3 k j (omega arith)
 increment-falls Geom4 k j h = power-falls 4 k j (omega arith)
 
 pub increments-fall : (rule : ThieleRule) (k i : ℕ) → k ≤ most_members → get_or (increments rule k) (i + 1) 0 ≤ get_or (increments rule k) i 0
-increments-fall rule k i most = elim (cases_lt (i + 1) k) [
-  | inl low ↦ rw (increments-within rule k (i + 1) (omega arith) low, increments-within rule k i (omega arith) (omega arith)) (increment-falls rule k (i + 1) (omega arith))
-  | inr high ↦ rw (increments-past rule k (i + 1) high) (omega arith)
-]
+increments-fall rule k i most =
+    grind (arith, common_steps, cases_lt, increments-within, increment-falls, increments-past)
 
 -- ---- they are exact
 
@@ -103,10 +100,8 @@ increment-most Geom3 k j h = pow-le-pow_right (omega arith) (omega arith)
 increment-most Geom4 k j h = pow-le-pow_right (omega arith) (omega arith)
 
 pub weight-most : (rule : ThieleRule) (k i : ℕ) → k ≤ most_members → get_or (increments rule k) i 0 ≤ denominator rule k
-weight-most rule k i most = elim (cases_lt i k) [
-  | inl low ↦ rw (increments-within rule k i (omega arith) low) (increment-most rule k (i + 1) (omega arith))
-  | inr high ↦ rw (increments-past rule k i high) (omega arith)
-]
+weight-most rule k i most =
+    grind (arith, common_steps, cases_lt, increments-within, increment-most, increments-past)
 
 -- the sum of the first increments, one at a time
 pub sum_take_more : (w : List ℕ) (x : ℕ) → x < length w → sum (take (x + 1) w) ≡ sum (take x w) + get_or w x 0

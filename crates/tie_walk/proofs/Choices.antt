@@ -1,4 +1,5 @@
 -- Sequences of choices, where each choice changes the set that the next one is made at.
+use Rattle.std.proofs.lemmas.Grind.{common_steps}
 use Rattle.std.proofs.Common.{◌≡◌, ℕ, zero, suc, ◌+◌, ◌≤◌, ◌&&◌, Bool, true, List, [], ◌∷◌, ◌++◌, refl, sym, ap, ◌∙◌, subst, arith, length, map, Contains}
 use Rattle.std.specs.Prelude.{fold}
 use Rattle.std.specs.List.{list_any, flat_map, range_with_len, AllByRecursion, All}
@@ -46,12 +47,8 @@ module _ (may : List ℕ → ℕ → Bool) (change : List ℕ → ℕ → List �
   length-push (d ∷ list) c = omega (arith, length-push list c)
 
   pub reached_more : (start : List ℕ) (i : ℕ) (old : List ℕ) (c : ℕ) → IsReached may change start i old → may old c ≡ true → IsReached may change start (i + 1) (change old c)
-  reached_more start i old c r allowed = record {
-    list = r.list ++ c ∷ [];
-    long = omega (arith, length-push r.list c, r.long);
-    made = follows-push start r.list c r.made (ap (λ s. may s c) r.ends ∙ allowed);
-    ends = fold-push start r.list c ∙ ap (λ s. change s c) r.ends;
-  }
+  reached_more start i old c r allowed =
+      grind (arith, common_steps, length-push r.list c, follows-push, fold-push start r.list c)
 
   -- one choice before a change
   change_before : (start : List ℕ) (c i : ℕ) (set : List ℕ) → may start c ≡ true → IsChange (change start c) i set → IsChange start (i + 1) set
@@ -119,20 +116,8 @@ module _ (may : List ℕ → ℕ → Bool) (change : List ℕ → ℕ → List �
 
   pub reached_from_made : (size : ℕ) (set : List ℕ) → is_made size set ≡ true → IsReached may change start size set
   reached_from_made size set made =
-      let test : List ℕ → Bool = λ (list : List ℕ). follows may change start list && bytes_eq (fold change start list) set in
-      let some = Any-from_list_any test (sequences m size) made in
-      let list : List ℕ = some.1 in
-      let parts = and_parts (follows may change start list) (bytes_eq (fold change start list) set) some.4 in
-      record {
-        list = list;
-        long = All-contains (λ l. length l ≡ size) (sequences m size) list (sequences-length m size) (some.0, some.2, some.3);
-        made = parts.0;
-        ends = (bytes_eq-Decides (fold change start list) set).0 parts.1;
-      }
+      grind (arith, common_steps, Any-from_list_any, and_parts, All-contains, sequences-length, bytes_eq-Decides)
 
   pub made_from_reached : (size : ℕ) (set : List ℕ) (r : IsReached may change start size set) → AreCandidates m r.list → is_made size set ≡ true
   made_from_reached size set r all =
-      let test : List ℕ → Bool = λ (list : List ℕ). follows may change start list && bytes_eq (fold change start list) set in
-      let inside : Contains (sequences m size) r.list = subst (λ n. Contains (sequences m n) r.list) r.long (sequences-contains m r.list all) in
-      list_any-from_Any test (sequences m size)
-      (inside.0, r.list, inside.1, inside.2, and_from (follows may change start r.list) (bytes_eq (fold change start r.list) set) r.made ((bytes_eq-Decides (fold change start r.list) set).1 r.ends))
+      grind (arith, common_steps, sequences-contains, list_any-from_Any, and_from, bytes_eq-Decides)

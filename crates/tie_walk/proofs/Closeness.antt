@@ -1,6 +1,6 @@
 -- Minimax: distances only grow as candidates are decided on.
 use Rattle.std.proofs.lemmas.Grind.{common_steps}
-use Rattle.std.proofs.Common.{◌≡◌, ℕ, ◌+◌, ◌-◌, ◌<◌, ◌≤◌, ◌==◌, ◌||◌, ◌∙◌, Bool, false, cond, not, List, [], ◌∷◌, ◌++◌, refl, sym, ap, arith, inl, inr, length, count_by, fold, max, take, get_or, slice_get, Some}
+use Rattle.std.proofs.Common.{◌≡◌, ℕ, ◌+◌, ◌-◌, ◌<◌, ◌≤◌, ◌∙◌, Bool, not, List, [], ◌∷◌, ◌++◌, refl, sym, ap, arith, length, count_by, fold, max, take, get_or, slice_get, Some}
 use Rattle.std.specs.Prelude.{nat_le}
 use Rattle.std.specs.List.{AllByRecursion}
 use Rattle.std.specs.Ordering.{ord_max, nat_cmp}
@@ -24,25 +24,7 @@ ballot-side : (c m : ℕ) (set added ballot : List ℕ) → IsIncreasing (c + 1)
     → count_by (λ n. not (has_member set n)) (members_upto ballot c) ≤ count_by (λ n. not (has_member (set ++ added) n)) ballot
 ballot-side c m set added [] above = omega arith
 ballot-side c m set added (n ∷ ballot) above =
-    let rest = ballot-side c m set added ballot above in
-    let whole = sum_by-cons (λ y. cond (not (has_member (set ++ added) y)) 1 0) n ballot in
-    elim (cases_lt c n) [
-      | inl past ↦
-          let skip : members_upto (n ∷ ballot) c ≡ members_upto ballot c = ap (λ b. cond b (n ∷ members_upto ballot c) (members_upto ballot c)) (lt-leb n c past) in
-          omega (arith, rest, whole, ap (count_by (λ y. not (has_member set y))) skip)
-      | inr low ↦
-          let take' : members_upto (n ∷ ballot) c ≡ n ∷ members_upto ballot c = ap (λ b. cond b (n ∷ members_upto ballot c) (members_upto ballot c)) (le-leb n c low) in
-          let none : has_member added n ≡ false = has_member-below (c + 1) m added n above (omega arith) in
-          let same : has_member (set ++ added) n ≡ has_member set n = list_any-append (λ y. y == n) set added ∙ ap (λ b. has_member set n || b) none ∙ or-false (has_member set n) in
-          let bit : Bool → ℕ = λ b. cond (not b) 1 0 in
-          omega (
-            arith,
-            whole,
-            ap (count_by (λ y. not (has_member set y))) take',
-            ap bit same,
-            sum_by-cons (λ y. cond (not (has_member set y)) 1 0) n (members_upto ballot c),
-          )
-    ]
+    grind (arith, common_steps, ballot-side c m set added ballot above, sum_by-cons, cases_lt, lt-leb, le-leb, has_member-below, list_any-append, or-false)
 
 -- those of the set who are not on the ballot up to c are not on the ballot
 set-side : (c first : ℕ) (set added ballot : List ℕ) → IsIncreasing first c set

@@ -1,22 +1,27 @@
 -- What is live before a start and at it: only what a walk enters on its way down to the start.
 use Rattle.std.proofs.lemmas.Grind.{common_steps}
-use Rattle.std.proofs.Common.{◌≡◌, ℕ, ◌+◌, ◌-◌, ◌<◌, ◌≤◌, ◌==◌, ◌∙◌, Bool, true, false, List, [], ◌∷◌, ◌++◌, Some, refl, sym, ap, subst, arith, inl, inr, length, length-append, filter, append_assoc, Less}
+use Rattle.std.proofs.Common.{◌≡◌, ℕ, ◌+◌, ◌-◌, ◌<◌, ◌≤◌, ◌==◌, ◌∙◌, Bool, true, false, List, [], ◌∷◌, ◌++◌, Option, Some, refl, sym, ap, subst, arith, inl, inr, length, length-append, filter, append_assoc, Less}
 use Rattle.std.specs.List.{AllByRecursion, list_any}
 use Rattle.std.specs.Ordering.{nat_cmp, is_gt, ordering_then}
 use Rattle.std.specs.Cmp.Lexicographic.{slice_cmp}
 use Rattle.std.proofs.lemmas.Bool.{cases_Bool, cases_lt, and_right, lt-ltb, false≢true}
 use Rattle.std.proofs.lemmas.Slice.Eq.{bytes_eq-Decides}
-use Rattle.ballot_base.specs.Lists.{IsIncreasing, is_later}
+use Rattle.ballot_base.specs.Limits.{most_candidates}
+use Rattle.ballot_base.specs.Lists.{IsIncreasing, increasing_lists, is_later, later_than}
 use Rattle.ballot_base.specs.CandSet.{members_upto}
 use Rattle.ballot_base.proofs.Committees.{IsChosen, increasing_lists-chosen}
 use Rattle.ballot_base.proofs.FirstMember.{slice_cmp_same}
 use Rattle.ballot_base.proofs.Increasing.{IsIncreasing-higher}
 use Rattle.ballot_base.proofs.Later.{is_later-self}
 use Rattle.ballot_base.proofs.ListLemmas.{AllByRecursion-weaker}
-use Rattle.tie_walk.specs.Ceilings.{is_open, is_ahead, live_below}
-use Rattle.tie_walk.specs.Steps.Walks.{open_after}
-use Rattle.tie_walk.proofs.LiveLemmas.{upto-all, upto-increasing, upto-next, upto-rest, ahead-start, live-open, live-parts, live-past, live-shut}
-use Rattle.tie_walk.proofs.OpenLemmas.{open_after-push, shut-large}
+use Rattle.tie_walk.specs.Ceilings.{is_open, is_ahead, live_below, live_count}
+use Rattle.tie_walk.specs.Steps.Walks.{committees_after, those_reaching, open_after, IsPast, IsBegun}
+use Rattle.tie_walk.specs.declared.prefix.Prefix.{Prefix}
+use Rattle.tie_walk.specs.declared.walk.Counts.{Counts}
+use Rattle.tie_walk.proofs.LiveLemmas.{upto-all, upto-increasing, upto-next, upto-rest, ahead-start, live-open, live-parts, live-past, live-shut, place-upto}
+use Rattle.tie_walk.proofs.OpenLemmas.{open_after-push, open-past, shut-large}
+use Rattle.tie_walk.proofs.WaitLemmas.{work-most}
+use Rattle.tie_walk.proofs.WalkLemmas.{prefix_at, from-past, place-past}
 
 -- ---- what comes before a start
 
@@ -46,8 +51,7 @@ module _ (m k : ℕ) (start : List ℕ) (up : IsIncreasing 1 m start) (size : le
 
   -- the start itself
   pub ahead-whole : is_ahead m k (Some start) m start ≡ false
-  ahead-whole =
-      not-ahead m start (λ list chosen same. subst (λ l. is_later l start ≡ false) (sym (sym (upto-all 1 m list chosen) ∙ same)) (is_later-self start))
+  ahead-whole = grind (arith, common_steps, not-ahead, upto-all, is_later-self)
 
   -- what has the next candidate, which the start has not
   ahead-before : (c : ℕ) → members_upto start (c + 1) ≡ members_upto start c → length (members_upto start c) < k
@@ -57,8 +61,7 @@ module _ (m k : ℕ) (start : List ℕ) (up : IsIncreasing 1 m start) (size : le
       below : (rest more : List ℕ) → start ≡ members_upto start c ++ rest → IsIncreasing (c + 1 + 1) m rest
           → is_later (members_upto start c ++ (c + 1) ∷ more) start ≡ false
       below [] more is above = absurd (omega (arith, few, size, ap length is, length-append (members_upto start c) []))
-      below (y ∷ rest) more is above =
-          subst (λ s. is_later (members_upto start c ++ (c + 1) ∷ more) s ≡ false) (sym is) (smaller-before (members_upto start c) more rest (c + 1) y (omega (arith, above.0)))
+      below (y ∷ rest) more is above = grind (arith, common_steps, smaller-before)
 
       each : (list : List ℕ) → IsIncreasing 1 m list → members_upto list (c + 1) ≡ members_upto start c ++ (c + 1) ∷ [] → is_later list start ≡ false
       each list chosen same =
@@ -88,3 +91,29 @@ module _ (m k : ℕ) (start : List ℕ) (up : IsIncreasing 1 m start) (size : le
           → live_below bound m k best (Some start) (m - (n + 1)) (n + 1) (members_upto start n ++ (n + 1) ∷ []) ≡ 0
       before n gone =
           grind (arith, common_steps, cases_lt, live-past, Some, ahead-before, live-shut, shut-large, length-append)
+
+  -- the first place of a walk that left the way down to the start at a beginning of it
+  pub begun : (value : List ℕ → ℕ) (bound : ℕ → List ℕ → ℕ → ℕ) (best n : ℕ) (next : Option Prefix) (counts : Counts) → m ≤ most_candidates → n ≤ m
+      → IsPast (prefix_at n (members_upto start n)) next
+      → those_reaching value best (committees_after m k [] (members_upto start n)) ≡ those_reaching value best (later_than (Some start) (increasing_lists 1 m k))
+      → live_below bound m k best (Some start) (m - n) n (members_upto start n) ≡ 0
+      → live_count bound m k best (Some start)
+      ≤ n + live_below bound m k best (Some start) (m - n) n (members_upto start n) + open_after bound m k best [] (members_upto start n)
+      → live_below bound m k best (Some start) (m - n) n (members_upto start n) + open_after bound m k best [] (members_upto start n) ≤ live_count bound m k best (Some start)
+      → counts.entered ≡ n → n ≤ counts.ceilings → counts.ceilings ≤ n + 1
+      → IsBegun value bound m k best (Some start) (record { place = next; counts = counts })
+  begun value bound best n next counts most low past left nothing all few entered asked once =
+      let place : Prefix = prefix_at n (members_upto start n) in
+      let still = open-past bound m k best place next past in
+      let rest = place-past m k place next (place-upto m k n start place.set low up size refl) past in
+      record {
+        next = ap (those_reaching value best) (from-past m k place next past) ∙ left;
+        place = rest;
+        counted = record {
+          all = omega (arith, still, nothing, all, entered);
+          few = omega (arith, still, few, entered, low);
+          exact = λ e. absurd (cc);
+          asked = omega (arith, entered, asked);
+          fits = omega (arith, once, low, most, work-most m k next most rest);
+        };
+      }

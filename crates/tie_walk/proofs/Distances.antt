@@ -41,10 +41,7 @@ common-least_right first last xs ys i j = omega (arith, ap length (common-turned
 -- an increasing list begins with its least number, or does not have it
 begins : (first last : ℕ) (xs : List ℕ) → IsIncreasing first last xs → IsIncreasing (first + 1) last xs ⊎ ((rest : List ℕ) × (xs ≡ first ∷ rest) × IsIncreasing (first + 1) last rest)
 begins first last [] i = inl tt
-begins first last (x ∷ xs) i = elim (cases_order first x) [
-  | inl same ↦ inr (xs, ap (λ n. n ∷ xs) (sym same), subst (λ n. IsIncreasing (n + 1) last xs) (sym same) i.2)
-  | inr d ↦ elim d [ inl less ↦ inl (omega arith, i.1, i.2) | inr more ↦ absurd (omega (arith, i.0)) ]
-]
+begins first last (x ∷ xs) i = grind (arith, common_steps, cases_order first x)
 
 AreDisjoint : List ℕ → List ℕ → Type 0
 AreDisjoint xs ys = (k : ℕ) → has_member xs k ≡ true → has_member ys k ≡ false

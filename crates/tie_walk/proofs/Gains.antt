@@ -1,6 +1,6 @@
 -- What a set gains by a candidate: over the rows, and as the difference of two values.
 use Rattle.std.proofs.lemmas.Grind.{common_steps}
-use Rattle.std.proofs.Common.{◌≡◌, ℕ, zero, suc, ◌+◌, ◌-◌, ◌*◌, ◌/◌, ◌<◌, ◌≤◌, ◌^◌, ◌∙◌, Bool, true, false, cond, List, [], ◌∷◌, Some, refl, sym, ap, arith, length, take, get_or, slice_get, sum, sum_by, add-one}
+use Rattle.std.proofs.Common.{◌≡◌, ℕ, zero, suc, ◌+◌, ◌-◌, ◌*◌, ◌<◌, ◌≤◌, ◌^◌, ◌∙◌, Bool, true, false, cond, List, [], ◌∷◌, Some, refl, sym, ap, arith, length, take, get_or, slice_get, sum, sum_by, add-one}
 use Rattle.std.proofs.lemmas.Bool.{cases_eq, eq-eqb, ne_eqb}
 use Rattle.std.proofs.lemmas.List.Sums.{sum_by-cons, count_by-le-length}
 use Rattle.std.proofs.Math.Nat.{mul-le-mul_right, div-mul-le_self}
@@ -20,7 +20,7 @@ use Rattle.tie_walk.specs.Steps.Tables.{parts, score}
 use Rattle.tie_walk.specs.Values.{thiele_value, satisfaction_value}
 use Rattle.tie_walk.specs.declared.sequential.Step.TheVariants.{Grow}
 use Rattle.tie_walk.proofs.GreatestSums.{greatest_sum-same}
-use Rattle.tie_walk.proofs.RowSums.{AreBallots, rows-more, rows-bound, all-most, satisfaction_value-by_parts}
+use Rattle.tie_walk.proofs.RowSums.{AreBallots, sum-parts, rows-more, rows-bound, all-most, satisfaction_value-by_parts}
 use Rattle.tie_walk.proofs.TableLemmas.{sum-take_more, parts-at, sum-take-le, weight-le-sum, increments_sum-most}
 use Rattle.tie_walk.proofs.WorthLemmas.{part-most, partial, share, worth-most, worth-whole, supported}
 
@@ -46,20 +46,9 @@ one_more false w h = let e : h + 0 ≡ h = omega arith in omega (arith, ap (λ n
 
 pub thiele-partial : (m : ℕ) (w : List ℕ) (rows : List Row) (set : List ℕ) (x : ℕ) → AreBallots m rows → has_member set x ≡ false
     → thiele_value w rows (with_member set x) ≡ thiele_value w rows set + partial Grow w set x rows
-thiele-partial m w [] set x all none = refl
-thiele-partial m w (row ∷ rows) set x all none =
-    let b = has_member row.0 x in
-    let one : sum (take (hits row.0 (with_member set x)) w) ≡ sum (take (hits row.0 set) w) + share Grow w set x row =
-    ap (λ h. sum (take h w)) (hits-with 1 m row.0 set x all.0 none) ∙ one_more b w (hits row.0 set) in
-    let product : row.1 * sum (take (hits row.0 (with_member set x)) w) ≡ row.1 * sum (take (hits row.0 set) w) + row.1 * share Grow w set x row =
-    ap (λ n. row.1 * n) one ∙ omega arith in
-    omega (
-      arith,
-      thiele-partial m w rows set x all.1 none,
-      sum_by-cons (λ (r : Row). r.1 * sum (take (hits r.0 (with_member set x)) w)) row rows,
-      sum_by-cons (λ (r : Row). r.1 * sum (take (hits r.0 set) w)) row rows,
-      sum_by-cons (λ (r : Row). r.1 * share Grow w set x r) row rows,
-    )
+thiele-partial m w rows set x all none =
+    sum-parts (λ (r : Row). r.1 * sum (take (hits r.0 (with_member set x)) w)) (λ (r : Row). r.1 * sum (take (hits r.0 set) w)) (λ (r : Row). r.1 * share Grow w set x r) m rows all
+    (λ r up. ap (λ h. r.1 * sum (take h w)) (hits-with 1 m r.0 set x up none) ∙ ap (λ n. r.1 * n) (one_more (has_member r.0 x) w (hits r.0 set)) ∙ omega arith)
 
 -- the gain is the difference of the values
 pub thiele-gain : (m : ℕ) (w : List ℕ) (rows : List Row) (set : List ℕ) (x : ℕ) → AreBallots m rows → has_member set x ≡ false
@@ -86,21 +75,9 @@ score-whole shares rows x = supported (λ (r : Row). get_or shares (length r.0) 
 shares-with : (m : ℕ) (shares : List ℕ) (rows : List Row) (set : List ℕ) (x : ℕ) → AreBallots m rows → has_member set x ≡ false
     → sum_by (λ (r : Row). r.1 * hits r.0 (with_member set x) * get_or shares (length r.0) 0) rows
     ≡ sum_by (λ (r : Row). r.1 * hits r.0 set * get_or shares (length r.0) 0) rows + sum_by (λ (r : Row). r.1 * given shares x r) rows
-shares-with m shares [] set x all none = refl
-shares-with m shares (row ∷ rows) set x all none =
-    let s = get_or shares (length row.0) 0 in
-    let b = has_member row.0 x in
-    let one : row.1 * hits row.0 (with_member set x) * s ≡ row.1 * (hits row.0 set + bit b) * s = ap (λ h. row.1 * h * s) (hits-with 1 m row.0 set x all.0 none) in
-    let split : (n h t w : ℕ) → n * (h + t) * w ≡ n * h * w + n * t * w = λ n h t w. omega arith in
-    omega (
-      arith,
-      split row.1 (hits row.0 set) (bit b) s,
-      product-of-bit b row.1 s,
-      shares-with m shares rows set x all.1 none,
-      sum_by-cons (λ (r : Row). r.1 * hits r.0 (with_member set x) * get_or shares (length r.0) 0) row rows,
-      sum_by-cons (λ (r : Row). r.1 * hits r.0 set * get_or shares (length r.0) 0) row rows,
-      sum_by-cons (λ (r : Row). r.1 * given shares x r) row rows,
-    )
+shares-with m shares rows set x all none =
+    sum-parts (λ (r : Row). r.1 * hits r.0 (with_member set x) * get_or shares (length r.0) 0) (λ (r : Row). r.1 * hits r.0 set * get_or shares (length r.0) 0) (λ (r : Row). r.1 * given shares x r) m rows all
+    (λ r up. let s = get_or shares (length r.0) 0 in ap (λ h. r.1 * h * s) (hits-with 1 m r.0 set x up none) ∙ omega (arith, product-of-bit (has_member r.0 x) r.1 s))
 
 pub satisfaction-more : (m n : ℕ) (shares : List ℕ) (rows : List Row) (set : List ℕ) (x : ℕ) → m ≤ most_candidates → AreBallots m rows → shares ≡ parts (common_multiple n) → has_member set x ≡ false
     → satisfaction_value n rows (with_member set x) ≡ satisfaction_value n rows set + score shares rows x
@@ -132,11 +109,8 @@ module _ (shares : List ℕ) (x : ℕ) (small : (n : ℕ) → get_or shares n 0 
 
   pub score-more : (rows : List Row) (i : ℕ) (row : Row) → slice_get rows i ≡ Some row
       → sum_by (λ (r : Row). r.1 * given shares x r) (take (i + 1) rows) ≡ sum_by (λ (r : Row). r.1 * given shares x r) (take i rows) + cond (has_member row.0 x) (row.1 * get_or shares (length row.0) 0) 0
-  score-more rows i row found = omega (arith, rows-more (given shares x) rows i row found, product-of-part (has_member row.0 x) row.1 (get_or shares (length row.0) 0))
-    where
-      product-of-part : (b : Bool) (n w : ℕ) → n * cond b w 0 ≡ cond b (n * w) 0
-      product-of-part true n w = refl
-      product-of-part false n w = omega arith
+  score-more rows i row found =
+      grind (arith, common_steps, rows-more (given shares x) rows i row found, given shares x)
 
   -- the sum so far and what the next row's voters give
   pub score-fits : (e : Election) (i : ℕ) (row : Row) → IsElection e → slice_get e.rows i ≡ Some row
@@ -155,18 +129,7 @@ hits-none (n ∷ ballot) = omega (arith, hits-none ballot, sum_by-cons (λ y. co
 voter-most : (e : Election) (shares set : List ℕ) (row : Row) → IsElection e → shares ≡ parts (common_multiple e.m) → IsIncreasing 1 e.m row.0 → hits row.0 set * get_or shares (length row.0) 0 ≤ 2 ^ 90 - 1
 voter-most e shares set ([], voters) valid is up = omega arith
 voter-most e shares set (x ∷ ballot, voters) valid is up =
-    let own : List ℕ = x ∷ ballot in
-    let here : get_or shares (length own) 0 ≡ common_multiple e.m / length own =
-    ap (λ s. get_or s (length own) 0) is ∙ parts-at (common_multiple e.m) (length own) (omega arith) (omega (arith, length-increasing 1 e.m own up, valid.most)) in
-    let product : hits own set * (common_multiple e.m / length own) ≤ length own * (common_multiple e.m / length own) =
-    mul-le-mul_right (common_multiple e.m / length own) (count_by-le-length (has_member set) own) in
-    let turned : length own * (common_multiple e.m / length own) ≡ common_multiple e.m / length own * length own = omega arith in
-    omega (
-      arith,
-      ap (λ n. hits own set * n) here,
-      div-mul-le_self (common_multiple e.m) (length own),
-      common_multiple_small e.m valid.most,
-    )
+    grind (arith, common_steps, parts-at, length-increasing, mul-le-mul_right, count_by-le-length, div-mul-le_self, common_multiple_small)
 
 -- what all voters give
 pub satisfaction-most : (e : Election) (shares set : List ℕ) → IsElection e → shares ≡ parts (common_multiple e.m) → satisfaction_value e.m e.rows set ≤ 2 ^ 122 - 2 ^ 32

@@ -31,11 +31,7 @@ pub some_list : (n first size : ℕ) → size ≤ n → (list : List ℕ) × (li
 some_list n first zero h = ([], [], lists-empty n first)
 some_list zero first (suc size) h = absurd (omega arith)
 some_list (suc n) first (suc size) h =
-    let below = some_list n (first + 1) size (omega arith) in (
-      first ∷ below.0,
-      map (λ rest. first ∷ rest) below.1 ++ lists_of n (first + 1) (suc size),
-      lists-more n first size ∙ ap (λ ls. map (λ rest. first ∷ rest) ls ++ lists_of n (first + 1) (suc size)) below.2,
-    )
+    grind (arith, common_steps, some_list n (first + 1) size (omega arith), lists-more n first size)
 
 greatest-from : {X : Type 0} (value : X → ℕ) (low : ℕ) (xs : List X) → greatest value low xs ≡ max low (greatest value 0 xs)
 greatest-from value low [] = omega arith

@@ -39,8 +39,7 @@ greatest-reached value low (set ∷ sets) =
 pub no_greater_value : (value : List ℕ → ℕ) (m k : ℕ) (set : List ℕ) → Contains (increasing_lists 1 m k) set → value set ≤ best_value value m k
 no_greater_value value m k set c =
     let all = increasing_lists 1 m k in
-    let bound : List ℕ → Type 0 = λ (other : List ℕ). value other ≤ greatest value 0 all in
-    All-contains bound all set (All-from_recursion bound all (values-greatest value 0 all)) c
+    grind (arith, common_steps, greatest value 0 all, All-contains, All-from_recursion, values-greatest value 0 all)
 
 -- the first committee
 first_committee : (m k : ℕ) → k ≤ m → Contains (increasing_lists 1 m k) (range_with_len 1 k)
@@ -64,9 +63,7 @@ winner-from_best value m k set inside is =
     (Contains-filter (λ other. value other == best_value value m k) (increasing_lists 1 m k) set inside (eq-eqb (value set) (best_value value m k) is))
 
 pub some_winner : (value : List ℕ → ℕ) (m k : ℕ) → k ≤ m → (set : List ℕ) × Contains (winners value m k) set × (value set ≡ best_value value m k)
-some_winner value m k fits =
-    let best = some_best value m k fits in
-    (best.0, winner-from_best value m k best.0 best.1 best.2, best.2)
+some_winner value m k fits = grind (arith, common_steps, some_best value m k fits, winner-from_best)
 
 pub winner-is : (value : List ℕ → ℕ) (m k : ℕ) (set : List ℕ) → Contains (winners value m k) set → IsIncreasing 1 m set × (length set ≡ k) × (value set ≡ best_value value m k)
 winner-is value m k set c =

@@ -3,8 +3,6 @@ use Rattle.std.proofs.lemmas.Grind.{common_steps}
 use Rattle.std.proofs.Common.{◌≡◌, ℕ, zero, suc, ◌+◌, ◌≤◌, ◌==◌, Bool, true, false, not, List, [], ◌∷◌, sym, ◌∙◌, subst, arith, filter, Contains}
 use Rattle.std.specs.List.{range_with_len}
 use Rattle.std.specs.List.Sorted.{IsStrictlySortedBy}
-use Rattle.std.specs.Cmp.Lexicographic.{slice_cmp}
-use Rattle.std.specs.Ordering.{nat_cmp}
 use Rattle.std.proofs.lemmas.Bool.{cases_lt, and_parts}
 use Rattle.ballot_base.specs.Lists.{IsIncreasing}
 use Rattle.ballot_base.specs.CandSet.{has_member}
@@ -46,11 +44,7 @@ module _ (step : Step) (weights : List ℕ) (m : ℕ) (rows : List Row) where
       ((choice-parts set c parts.0).0, followed-candidates (change step set c) list parts.1)
 
   start-increasing : IsIncreasing 1 m (start step m)
-  start-increasing = by_step step
-    where
-      by_step : (s : Step) → IsIncreasing 1 m (start s m)
-      by_step Grow = tt
-      by_step Shrink = IsIncreasing-range 1 m m (omega arith)
+  start-increasing = grind (arith, common_steps, IsIncreasing-range)
 
   pub reached-increasing : (size : ℕ) (set : List ℕ) → IsReached (is_choice step weights m rows) (change step) (start step m) size set → IsIncreasing 1 m set
   reached-increasing zero set r = subst (λ s. IsIncreasing 1 m s) (sym (reached_start (is_choice step weights m rows) (change step) (start step m) set r)) start-increasing
@@ -92,18 +86,4 @@ module _ (step : Step) (weights : List ℕ) (m : ℕ) (rows : List Row) where
 
   pub level-first : (sets : List (List ℕ)) → sets ≡ start step m ∷ [] → IsLevel step weights m rows 0 sets
   unfolding IsStrictlySortedBy
-  level-first sets is = record {
-    order = subst (λ l. IsStrictlySortedBy (slice_cmp nat_cmp) l) (sym is) (tt, tt);
-    members = λ set. (
-      λ inside.
-          subst (λ s. IsReached (is_choice step weights m rows) (change step) (start step m) 0 s) (only (start step m) set (subst (λ l. Contains l set) is inside))
-          (reached_none (is_choice step weights m rows) (change step) (start step m)),
-      λ reached.
-          let same = reached_start (is_choice step weights m rows) (change step) (start step m) set reached in
-          subst (λ l. Contains l set) (sym is) (0, omega arith, sym same),
-    );
-  }
-    where
-      only : (one set : List ℕ) → Contains (one ∷ []) set → one ≡ set
-      only one set (zero, inside, same) = same
-      only one set (suc i, inside, same) = absurd (omega (arith, inside))
+  level-first sets is = grind (arith, common_steps, reached_none, reached_start)

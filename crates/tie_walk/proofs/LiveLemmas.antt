@@ -1,6 +1,7 @@
 -- Live prefixes: those still to be entered after a start, and on the way down to it.
 use Rattle.std.proofs.lemmas.Grind.{common_steps}
 use Rattle.std.proofs.Common.{◌≡◌, ℕ, zero, suc, ◌+◌, ◌-◌, ◌<◌, ◌≤◌, ◌||◌, ◌∙◌, ◌⊎◌, Bool, true, false, List, [], ◌∷◌, ◌++◌, Option, None, Some, refl, sym, ap, subst, arith, inl, inr, length, length-append, filter, map, append_assoc, append-nil}
+use Rattle.std.specs.Prelude.{nat_le}
 use Rattle.std.specs.List.{AllByRecursion, list_any}
 use Rattle.std.specs.Str.{bytes_eq}
 use Rattle.std.proofs.lemmas.Bool.{cases_Bool, cases_lt, cases_eq, le-leb, lt-leb, or_left, or_right, false≢true}
@@ -37,44 +38,6 @@ pub upto-twice : (c : ℕ) (set : List ℕ) → members_upto (members_upto set (
 upto-twice c [] = refl
 upto-twice c (x ∷ set) = grind (arith, common_steps, upto-twice c set, cases_lt, lt-leb, le-leb)
 
--- one candidate more is a member, or not
-pub upto-next : (first last c : ℕ) (set : List ℕ) → IsIncreasing first last set
-    → ((rest : List ℕ) × ((set ≡ members_upto set c ++ (c + 1) ∷ rest) × (members_upto set (c + 1) ≡ members_upto set c ++ (c + 1) ∷ []))) ⊎ (members_upto set (c + 1) ≡ members_upto set c)
-upto-next first last c [] up = inr refl
-upto-next first last c (x ∷ set) up = elim (cases_lt c x) [
-  | inr low ↦
-      let here : members_upto (x ∷ set) c ≡ x ∷ members_upto set c = rw (le-leb x c low) in
-      let next : members_upto (x ∷ set) (c + 1) ≡ x ∷ members_upto set (c + 1) = rw (le-leb x (c + 1) (omega arith)) in
-      elim (upto-next (x + 1) last c set up.2) [
-        | inl is ↦
-            inl (
-              is.0,
-              (
-                ap (λ l. x ∷ l) is.1.0 ∙ sym (ap (λ l. l ++ (c + 1) ∷ is.0) here),
-                next ∙ ap (λ l. x ∷ l) is.1.1 ∙ sym (ap (λ l. l ++ (c + 1) ∷ []) here),
-              ),
-            )
-        | inr same ↦ inr (next ∙ ap (λ l. x ∷ l) same ∙ sym here)
-      ]
-  | inl high ↦
-      let rest : members_upto set c ≡ [] = upto-none (x + 1) last c set (omega arith) up.2 in
-      let here : members_upto (x ∷ set) c ≡ [] = rw (lt-leb x c high) rest in
-      elim (cases_eq x (c + 1)) [
-        | inl is ↦
-            let after : members_upto set (c + 1) ≡ [] = upto-none (x + 1) last (c + 1) set (omega arith) up.2 in
-            let next : members_upto (x ∷ set) (c + 1) ≡ x ∷ [] = rw (le-leb x (c + 1) (omega arith)) (ap (λ l. x ∷ l) after) in
-            inl (
-              set,
-              (
-                ap (λ n. n ∷ set) is ∙ sym (ap (λ l. l ++ (c + 1) ∷ set) here),
-                next ∙ ap (λ n. n ∷ []) is ∙ sym (ap (λ l. l ++ (c + 1) ∷ []) here),
-              ),
-            )
-        | inr other ↦
-            inr (upto-none x last (c + 1) (x ∷ set) (omega (arith, high, other)) (omega arith, up.1, up.2) ∙ sym here)
-      ]
-]
-
 -- a list is made of its members up to c and of larger ones
 pub upto-rest : (first last c : ℕ) (set : List ℕ) → IsIncreasing first last set
     → (rest : List ℕ) × ((set ≡ members_upto set c ++ rest) × IsIncreasing (c + 1) last rest)
@@ -91,14 +54,25 @@ upto-rest first last c (x ∷ set) up = elim (cases_lt c x) [
 
 pub upto-increasing : (first last c : ℕ) (set : List ℕ) → IsIncreasing first last set → IsIncreasing first c (members_upto set c)
 upto-increasing first last c [] up = tt
-upto-increasing first last c (x ∷ set) up = elim (cases_lt c x) [
-  | inr low ↦
-      subst (IsIncreasing first c) (sym (kept low)) (up.0, low, upto-increasing (x + 1) last c set up.2)
-  | inl high ↦ subst (IsIncreasing first c) (sym (upto-none x last c (x ∷ set) high (omega arith, up.1, up.2))) tt
-]
+upto-increasing first last c (x ∷ set) up =
+    grind (arith, common_steps, upto-increasing (x + 1) last c set up.2, cases_lt, upto-none, le-leb)
+
+-- one candidate more is a member, or not
+pub upto-next : (first last c : ℕ) (set : List ℕ) → IsIncreasing first last set
+    → ((rest : List ℕ) × ((set ≡ members_upto set c ++ (c + 1) ∷ rest) × (members_upto set (c + 1) ≡ members_upto set c ++ (c + 1) ∷ []))) ⊎ (members_upto set (c + 1) ≡ members_upto set c)
+upto-next first last c set up =
+    let parts = upto-rest first last c set up in
+    by parts.0 parts.1.0 parts.1.1
   where
-    kept : x ≤ c → members_upto (x ∷ set) c ≡ x ∷ members_upto set c
-    kept low = rw (le-leb x c low)
+    front : (rest : List ℕ) → set ≡ members_upto set c ++ rest → members_upto set (c + 1) ≡ members_upto set c ++ members_upto rest (c + 1)
+    front rest is =
+        ap (λ l. members_upto l (c + 1)) is ∙ filter-append (λ n. nat_le n (c + 1)) (members_upto set c) rest
+        ∙ ap (λ l. l ++ members_upto rest (c + 1)) (upto-all first (c + 1) (members_upto set c) (IsIncreasing-higher first c (c + 1) (members_upto set c) (omega arith) (upto-increasing first last c set up)))
+
+    by : (rest : List ℕ) → set ≡ members_upto set c ++ rest → IsIncreasing (c + 1) last rest
+        → ((more : List ℕ) × ((set ≡ members_upto set c ++ (c + 1) ∷ more) × (members_upto set (c + 1) ≡ members_upto set c ++ (c + 1) ∷ []))) ⊎ (members_upto set (c + 1) ≡ members_upto set c)
+    by [] is above = inr (front [] is ∙ append-nil (members_upto set c))
+    by (y ∷ rest) is above = grind (arith, common_steps, front (y ∷ rest) is, cases_eq, upto-none, le-leb, lt-leb, append-nil)
 
 -- ---- lists that pass a test
 
@@ -110,12 +84,6 @@ any-weaker p q (x ∷ xs) each is = elim (cases_Bool (p x)) [
       let rest : list_any p xs ≡ true = ap (λ b. b || list_any p xs) (sym none) ∙ is in
       or_right (q x) (list_any q xs) (any-weaker p q xs each rest)
 ]
-
-any-front : (p : List ℕ → Bool) (xs ys : List (List ℕ)) → list_any p xs ≡ true → list_any p (xs ++ ys) ≡ true
-any-front p xs ys is = list_any-append p xs ys ∙ or_left (list_any p xs) (list_any p ys) is
-
-any-back : (p : List ℕ → Bool) (xs ys : List (List ℕ)) → list_any p ys ≡ true → list_any p (xs ++ ys) ≡ true
-any-back p xs ys is = list_any-append p xs ys ∙ or_right (list_any p xs) (list_any p ys) is
 
 -- ---- prefixes whose committees all come after the start
 
@@ -139,16 +107,12 @@ module _ (m k : ℕ) (after : Option (List ℕ)) where
 
   pub ahead-here : (c d : ℕ) (set : List ℕ) → c ≤ m → d ≤ c → IsIncreasing 1 d set → length set ≤ k → k ≤ length set + (m - c)
       → AllAhead c set → is_ahead m k after d set ≡ true
-  ahead-here c d set inside low up few enough all =
-      all (λ list. bytes_eq (members_upto list d) set) (some-below c d set inside low up few enough)
+  ahead-here c d set inside low up few enough all = grind (arith, common_steps, some-below)
 
   -- what is ahead has beginnings that are
   pub ahead-beginning : (c : ℕ) (set front : List ℕ) → members_upto set c ≡ front → is_ahead m k after (c + 1) set ≡ true → is_ahead m k after c front ≡ true
   ahead-beginning c set front cut is =
-      any-weaker (λ list. bytes_eq (members_upto list (c + 1)) set) (λ list. bytes_eq (members_upto list c) front) later each is
-    where
-      each : (x : List ℕ) → bytes_eq (members_upto x (c + 1)) set ≡ true → bytes_eq (members_upto x c) front ≡ true
-      each x e = grind (arith, common_steps, bytes_eq-Decides, upto-twice)
+      grind (arith, common_steps, any-weaker, later, bytes_eq-Decides, upto-twice)
 
   module _ (bound : ℕ → List ℕ → ℕ → ℕ) (best : ℕ) where
     pub live-shut : (rest c : ℕ) (set : List ℕ) → is_open bound m k best c set ≡ false → live_below bound m k best after rest c set ≡ 0
@@ -177,14 +141,14 @@ module _ (m k : ℕ) (after : Option (List ℕ)) where
       where
         ahead-without : (n : ℕ) (s : List ℕ) → n < m → length s ≤ k → AllAhead n s → AllAhead (n + 1) s
         ahead-without n s more few all' test is =
-            grind (arith, common_steps, cases_lt, below-split, any-back, below-full)
+            grind (arith, common_steps, cases_lt, below-split, list_any-append, or_right, below-full)
 
         live-grown : (r n : ℕ) (s : List ℕ) → n + suc r ≡ m → IsIncreasing 1 n s → length s ≤ k → AllAhead n s
             → (IsIncreasing 1 (n + 1) (s ++ (n + 1) ∷ []) → AllAhead (n + 1) (s ++ (n + 1) ∷ [])
             → live_below bound m k best after r (n + 1) (s ++ (n + 1) ∷ []) ≡ open_below bound m k best r (n + 1) (s ++ (n + 1) ∷ []))
             → live_below bound m k best after r (n + 1) (s ++ (n + 1) ∷ []) ≡ open_below bound m k best r (n + 1) (s ++ (n + 1) ∷ [])
         live-grown r n s e' up' few all' again =
-            grind (arith, common_steps, cases_lt, IsIncreasing-push, below-split, any-front, length-append, shut-large, live-shut, open-none)
+            grind (arith, common_steps, cases_lt, IsIncreasing-push, below-split, list_any-append, or_left, length-append, shut-large, live-shut, open-none)
 
     -- ---- on the way down to the start: the prefix with the next candidate, and the one without
     module _ (c : ℕ) (set : List ℕ) (more : c < m) (up : IsIncreasing 1 c set) (is : is_open bound m k best c set ≡ true) where
@@ -238,7 +202,7 @@ module _ (m k : ℕ) where
 
   in-after : (test : List ℕ → Bool) (set rest : List ℕ) (n : ℕ) → list_any test (committees_below m k n set) ≡ true
       → list_any test (committees_after m k [] (set ++ n ∷ rest)) ≡ true
-  in-after test set rest n is = grind (arith, common_steps, after-append, any-front, any-back)
+  in-after test set rest n is = grind (arith, common_steps, after-append, list_any-append, or_left, or_right)
 
   -- without a member of the start, and with all before it, come committees after the start
   pub ahead-start : (start set rest : List ℕ) (n : ℕ) → IsIncreasing 1 m start → length start ≡ k → start ≡ set ++ n ∷ rest → AllAhead m k (Some start) n set
@@ -264,9 +228,7 @@ module _ (m k : ℕ) where
       ∙ ap (λ ls. ls ++ those_reaching value best (committees_after m k [] set)) gone)
 
   pub upto-few : (c : ℕ) (start : List ℕ) → IsIncreasing 1 m start → length start ≡ k → length (members_upto start c) ≤ k
-  upto-few c start up size =
-      let parts = upto-rest 1 m c start up in
-      omega (arith, size, ap length parts.1.0, length-append (members_upto start c) parts.0)
+  upto-few c start up size = grind (arith, common_steps, upto-rest 1 m c start up, length-append)
 
   -- each beginning of a start is a place
   pub place-upto : (c : ℕ) (start set : List ℕ) → c ≤ m → IsIncreasing 1 m start → length start ≡ k → set ≡ members_upto start c → IsPlace m k (Some (prefix_at c set))
@@ -279,13 +241,7 @@ module _ (m k : ℕ) where
       ≤ live_below bound m k best (Some start) (m - c) c (members_upto start c) + open_after bound m k best [] (members_upto start c)
   down-step bound best c start more up size is =
       let set = members_upto start c in
-      let below = upto-increasing 1 m c start up in
-      elim (upto-next 1 m c start up) [
-        | inl next ↦
-            let all = ahead-start start set next.0 (c + 1) up size next.1.0 in
-            rw next.1.1 (omega (arith, down-with m k (Some start) bound best c set more below is all, open_after-push bound m k best [] set (c + 1)))
-        | inr same ↦ rw same (omega (arith, down-without m k (Some start) bound best c set more below is))
-      ]
+      grind (arith, common_steps, upto-increasing 1 m c start up, upto-next 1 m c start up, ahead-start, down-with, open_after-push, down-without)
 
 -- the committees from the first place on that reach the greatest value are the winners after the start
 pub winners-left : (value : List ℕ → ℕ) (n m k best : ℕ) (sets : List (List ℕ)) (start after : Option (List ℕ)) → n ≡ m → best ≡ best_value value n k

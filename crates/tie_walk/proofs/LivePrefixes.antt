@@ -13,12 +13,6 @@ module _ (bound : ℕ → List ℕ → ℕ → ℕ) (m k best : ℕ) (after : Op
   counted zero c set opened ahead = rw (opened, ahead) (omega arith)
   counted (suc rest) c set opened ahead = rw (opened, ahead) (omega arith)
 
-  open-counted : (rest c : ℕ) (set : List ℕ) → 1 ≤ live_below bound m k best after rest c set → is_open bound m k best c set ≡ true
-  open-counted rest c set some = grind (arith, common_steps, cases_Bool, live-shut)
-
-  ahead-counted : (rest c : ℕ) (set : List ℕ) → 1 ≤ live_below bound m k best after rest c set → is_ahead m k after c set ≡ true
-  ahead-counted rest c set some = grind (arith, common_steps, cases_Bool, live-past)
-
   -- what is ahead has all its beginnings ahead
   ahead-down : (d c e : ℕ) (set : List ℕ) → e ≡ c + d → is_ahead m k after e (members_upto set e) ≡ true
       → is_ahead m k after c (members_upto set c) ≡ true
@@ -41,4 +35,4 @@ module _ (bound : ℕ → List ℕ → ℕ → ℕ) (m k best : ℕ) (after : Op
   pub counted-live : (prefix : Prefix) → IsIncreasing 1 prefix.c prefix.set → prefix.c ≤ m
       → ((c : ℕ) → c ≤ prefix.c → 1 ≤ live_below bound m k best after (m - c) c (members_upto prefix.set c))
       → IsLive bound m k best after prefix
-  counted-live prefix up inside each = grind (arith, common_steps, upto-all, ahead-counted, open-counted)
+  counted-live prefix up inside each = grind (arith, common_steps, upto-all, live-past, cases_Bool, live-shut)

@@ -1,14 +1,13 @@
 -- In which ranges values and bounds lie, whatever the election is.
 use Rattle.std.proofs.lemmas.Grind.{common_steps}
-use Rattle.std.proofs.Common.{◌≡◌, ℕ, zero, suc, ◌+◌, ◌-◌, ◌*◌, ◌/◌, ◌^◌, ◌<◌, ◌≤◌, ◌∙◌, Bool, true, false, cond, List, [], ◌∷◌, ◌++◌, add-one, ap, arith, get_or, length, lit≤, map, refl, sum, sum_by, sym, take}
+use Rattle.std.proofs.Common.{◌≡◌, ℕ, zero, suc, ◌+◌, ◌-◌, ◌*◌, ◌/◌, ◌^◌, ◌<◌, ◌≤◌, Bool, true, false, cond, List, ◌++◌, add-one, arith, get_or, length, lit≤, map, refl, sum, sym, take}
 use Rattle.std.specs.Prelude.{nat_le}
 use Rattle.std.specs.List.{range_with_len}
-use Rattle.std.proofs.Math.Nat.{div-mul-le_self, le-div_iff_mul-le, mul-div-le, mul-le-mul, mul-le-mul_right, pow-le-pow_left, pow-le-pow_right}
+use Rattle.std.proofs.Math.Nat.{div-mul-le_self, le-div_iff_mul-le, mul-le-mul_right, pow-le-pow_left, pow-le-pow_right}
 use Rattle.std.proofs.lemmas.Bool.{leb-true}
-use Rattle.std.proofs.lemmas.List.Sums.{sum-map, sum_by-cons, sum_by-le-sum_by, sum_by-take-le, count_by-le-length}
-use Rattle.ballot_base.specs.Limits.{most_candidates, most_members, most_voters}
+use Rattle.std.proofs.lemmas.List.Sums.{sum-map, sum_by-le-sum_by}
+use Rattle.ballot_base.specs.Limits.{most_members, most_voters}
 use Rattle.ballot_base.specs.Lists.{IsIncreasing}
-use Rattle.ballot_base.specs.CandSet.{has_member}
 use Rattle.ballot_base.specs.CommonMultiple.{common_multiple}
 use Rattle.ballot_base.specs.Increments.{increment, increments, denominator}
 use Rattle.ballot_base.specs.Ballots.{Row, Election, IsElection, hits}
@@ -16,16 +15,16 @@ use Rattle.ballot_base.specs.declared.increments.ThieleRule.{ThieleRule}
 use Rattle.ballot_base.specs.declared.increments.ThieleRule.TheVariants.{Pav, Geom2, Geom3, Geom4}
 use Rattle.ballot_base.proofs.Committees.{length-increasing}
 use Rattle.ballot_base.proofs.Increasing.{has_member-above}
-use Rattle.ballot_base.proofs.LeastMultiples.{common_multiple_most, common_multiple_small}
+use Rattle.ballot_base.proofs.LeastMultiples.{common_multiple_most}
 use Rattle.ballot_base.proofs.WeightLemmas.{denominator-most, weight-most}
 use Rattle.tie_walk.specs.Ceilings.{ceiling, gain_at, greatest_sum}
 use Rattle.tie_walk.specs.Sequences.{gain}
 use Rattle.tie_walk.specs.Values.{thiele_value, satisfaction_value}
 use Rattle.tie_walk.specs.Steps.Tables.{parts}
-use Rattle.tie_walk.proofs.Gains.{gain-most, satisfaction-most, thiele-gain}
+use Rattle.tie_walk.proofs.Gains.{gain-most, satisfaction-most, thiele-gain, thiele-most}
 use Rattle.tie_walk.proofs.GreatestSums.{best_of-most, greatest_sum-same}
-use Rattle.tie_walk.proofs.RowSums.{all-most, satisfaction_value-by_parts}
-use Rattle.tie_walk.proofs.TableLemmas.{parts-at, parts-first, sum-take_more}
+use Rattle.tie_walk.proofs.RowSums.{all-most}
+use Rattle.tie_walk.proofs.TableLemmas.{sum-take-le, sum-take_more}
 use Rattle.tie_walk.proofs.TightLemmas.{hits-most, satisfaction-tight}
 
 -- ---- the sum of all increments
@@ -33,8 +32,7 @@ use Rattle.tie_walk.proofs.TightLemmas.{hits-most, satisfaction-tight}
 -- a part of a larger whole is no smaller
 part-le : (x y j : ℕ) → x ≤ y → x / j ≤ y / j
 part-le x y zero less = omega arith
-part-le x y (suc j) less =
-    (le-div_iff_mul-le {k = suc j} {x = x / suc j} {y = y} (omega arith)).1 (omega (arith, div-mul-le_self x (suc j), less))
+part-le x y (suc j) less = grind (arith, common_steps, le-div_iff_mul-le, div-mul-le_self x (suc j))
 
 abbrev largest_part : ℕ → ℕ
 largest_part j = common_multiple most_members / j
@@ -65,69 +63,36 @@ increments-most rule k g each =
     (λ j. within (nat_le j k) (increment rule k j) (g j) (λ is. each j (leb-true j k is)))
 
 power-most : (p k j : ℕ) → 1 ≤ p → p ≤ 4 → k ≤ most_members → p ^ (k - j) ≤ largest_power j
-power-most p k j some few most =
-    omega (arith, pow-le-pow_left few (k - j), pow-le-pow_right {n = 4} (omega arith) {i = k - j} {j = most_members - j} (omega arith))
+power-most p k j some few most = grind (arith, common_steps, pow-le-pow_left, pow-le-pow_right)
 
 -- ---- the values
-
-thiele-most : (weights : List ℕ) (e : Election) (committee : List ℕ) → IsElection e
-    → thiele_value weights e.rows committee ≤ most_voters * sum weights
-thiele-most weights e committee valid =
-    all-most (λ (r : Row). sum (take (hits r.0 committee) weights)) e (sum weights) valid
-    (λ r h. sum_by-take-le (λ (n : ℕ). n) weights (hits r.0 committee))
 
 pub proportional : (e : Election) (k : ℕ) (committee : List ℕ) → IsElection e → k ≤ most_members
     → thiele_value (increments Pav k) e.rows committee < 2 ^ 87
 proportional e k committee valid most =
     let all : sum (increments Pav k) ≤ sum (map largest_part (range_with_len 1 most_members)) =
     increments-most Pav k largest_part (λ j h. part-le (common_multiple k) (common_multiple most_members) j (common_multiple_most k most_members most)) in
-    omega (arith, thiele-most (increments Pav k) e committee valid, all, all_parts)
+    omega (arith, thiele-most e (increments Pav k) committee (sum (increments Pav k)) valid (sum-take-le (increments Pav k)), all, all_parts)
 
 geometric-by : (rule : ThieleRule) (e : Election) (k : ℕ) (committee : List ℕ) → IsElection e
     → ((j : ℕ) → j ≤ k → increment rule k j ≤ largest_power j) → thiele_value (increments rule k) e.rows committee < 2 ^ 114
 geometric-by rule e k committee valid each =
-    omega (arith, thiele-most (increments rule k) e committee valid, increments-most rule k largest_power each, all_powers)
+    omega (arith, thiele-most e (increments rule k) committee (sum (increments rule k)) valid (sum-take-le (increments rule k)), increments-most rule k largest_power each, all_powers)
 
 pub geometric : (e : Election) (k : ℕ) (committee : List ℕ) → IsElection e → k ≤ most_members
     → (thiele_value (increments Geom2 k) e.rows committee < 2 ^ 114) × (thiele_value (increments Geom3 k) e.rows committee < 2 ^ 114)
     × (thiele_value (increments Geom4 k) e.rows committee < 2 ^ 114)
 geometric e k committee valid most = grind (arith, common_steps, geometric-by, power-most)
 
--- the shares of the members whom a ballot approves are no more than the whole
-shares-most : (whole n h : ℕ) → h ≤ n → n ≤ most_candidates → h * get_or (parts whole) n 0 ≤ whole
-shares-most whole zero h few most = omega (arith, ap (λ x. h * x) (parts-first whole))
-shares-most whole (suc n) h few most = grind (arith, common_steps, get_or, parts-at, mul-le-mul, mul-div-le)
-
 pub satisfaction : (e : Election) (committee : List ℕ) → IsElection e → satisfaction_value e.m e.rows committee < 2 ^ 125
-satisfaction e committee valid =
-    let whole : ℕ = common_multiple e.m in
-    let worth : Row → ℕ = λ (r : Row). hits r.0 committee * get_or (parts whole) (length r.0) 0 in
-    let each : (r : Row) → IsIncreasing 1 e.m r.0 → worth r ≤ whole = λ r h.
-    shares-most whole (length r.0) (hits r.0 committee) (count_by-le-length (has_member committee) r.0) (omega (arith, length-increasing 1 e.m r.0 h, valid.most)) in
-    omega (
-      arith,
-      satisfaction_value-by_parts e.m e.m (parts whole) e.rows committee valid.most valid.ballots refl,
-      products (λ (r : Row). r.1) (λ (r : Row). hits r.0 committee) (λ (r : Row). get_or (parts whole) (length r.0) 0) e.rows,
-      all-most worth e whole valid each,
-      common_multiple_small e.m valid.most,
-    )
-  where
-    mul-assoc : (a b c : ℕ) → a * b * c ≡ a * (b * c)
-    mul-assoc a b c = omega arith
-
-    products : (a b c : Row → ℕ) (rows : List Row) → sum_by (λ (r : Row). a r * b r * c r) rows ≡ sum_by (λ (r : Row). a r * (b r * c r)) rows
-    products a b c [] = refl
-    products a b c (row ∷ rows) =
-        omega (arith, sum_by-cons (λ (r : Row). a r * b r * c r) row rows, sum_by-cons (λ (r : Row). a r * (b r * c r)) row rows, products a b c rows, mul-assoc (a row) (b row) (c row))
+satisfaction e committee valid = omega (arith, satisfaction-most e (parts (common_multiple e.m)) committee valid refl)
 
 -- ---- the bounds
 
 take-most : (w : List ℕ) (most x : ℕ) → ((i : ℕ) → get_or w i 0 ≤ most) → sum (take x w) ≤ x * most
 take-most w most zero each = omega arith
 take-most w most (suc x) each =
-    let product : suc x * most ≡ x * most + most = omega arith in
-    let step : sum (take (suc x) w) ≡ sum (take x w) + get_or w x 0 = ap (λ n. sum (take n w)) (sym (add-one x)) ∙ sum-take_more w x in
-    omega (arith, product, step, each x, take-most w most x each)
+    grind (arith, common_steps, take-most w most x each, add-one x, sum-take_more w x)
 
 -- a voter has no more hits than the set has members
 set-most : (w : List ℕ) (e : Election) (c most : ℕ) (set : List ℕ) → IsElection e → IsIncreasing 1 c set → ((i : ℕ) → get_or w i 0 ≤ most)

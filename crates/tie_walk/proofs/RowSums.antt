@@ -1,6 +1,6 @@
 -- Sums over the rows of a profile, of the voters of each times what one of them gives.
 use Rattle.std.proofs.lemmas.Grind.{common_steps}
-use Rattle.std.proofs.Common.{◌≡◌, ℕ, ◌+◌, ◌*◌, ◌/◌, ◌<◌, ◌≤◌, ◌^◌, ◌==◌, ◌∙◌, List, [], ◌∷◌, Some, not, cond, filter, refl, ap, arith, length, take, get_or, slice_get, sum_by}
+use Rattle.std.proofs.Common.{◌≡◌, ℕ, ◌+◌, ◌*◌, ◌<◌, ◌≤◌, ◌^◌, ◌∙◌, List, [], ◌∷◌, Some, refl, ap, arith, length, take, get_or, slice_get, sum_by}
 use Rattle.std.proofs.Math.Nat.{mul-le-mul, mul-le-mul_left}
 use Rattle.std.specs.List.{AllByRecursion}
 use Rattle.std.proofs.lemmas.List.Sums.{sum_by-cons, sum_by_more, sum_by_more_le_part, length-filter, count_by-le-length}
@@ -33,9 +33,7 @@ module _ (worth : Row → ℕ) where
   pub rows-more : (rows : List Row) (i : ℕ) (row : Row) → slice_get rows i ≡ Some row
       → sum_by (λ (r : Row). r.1 * worth r) (take (i + 1) rows) ≡ sum_by (λ (r : Row). r.1 * worth r) (take i rows) + row.1 * worth row
   rows-more rows i row found =
-      let here : get_or rows i row ≡ row = get_or_from_slice_get rows i row row found in
-      let within : i < length rows = slice_get_within rows i row found in
-      rw here at (sum_by_more (λ (r : Row). r.1 * worth r) rows i row within)
+      grind (arith, common_steps, get_or_from_slice_get rows i row row found, slice_get_within rows i row found, sum_by_more)
 
   rows-most : (m most : ℕ) (rows : List Row) → AreBallots m rows → ((r : Row) → IsIncreasing 1 m r.0 → worth r ≤ most)
       → sum_by (λ (r : Row). r.1 * worth r) rows ≤ voter_count rows * most
@@ -49,8 +47,7 @@ module _ (worth : Row → ℕ) where
   pub all-most : (e : Election) (most : ℕ) → IsElection e → ((r : Row) → IsIncreasing 1 e.m r.0 → worth r ≤ most)
       → sum_by (λ (r : Row). r.1 * worth r) e.rows ≤ most_voters * most
   all-most e most valid each =
-      let product : voter_count e.rows * most ≤ most_voters * most = mul-le-mul {m₁ = most} valid.voters (omega arith) in
-      omega (arith, product, rows-most e.m most e.rows valid.ballots each)
+      grind (arith, common_steps, mul-le-mul, rows-most e.m most e.rows valid.ballots each)
 
   -- a part of what was given so far, and what the next row's voters give
   pub rows-bound : (part : Row → ℕ) → ((r : Row) → part r ≤ worth r) → (e : Election) (most i : ℕ) (row : Row) → IsElection e → ((r : Row) → IsIncreasing 1 e.m r.0 → worth r ≤ most)
@@ -62,6 +59,12 @@ module _ (worth : Row → ℕ) where
       let product : voter_count e.rows * most ≤ most_voters * most = mul-le-mul {m₁ = most} valid.voters (omega arith) in
       omega (arith, so_far, product, rows-most e.m most e.rows valid.ballots each)
 
+-- the sum of two amounts
+pub sum-parts : (f g h : Row → ℕ) (m : ℕ) (rows : List Row) → AreBallots m rows → ((r : Row) → IsIncreasing 1 m r.0 → f r ≡ g r + h r)
+    → sum_by f rows ≡ sum_by g rows + sum_by h rows
+sum-parts f g h m [] all each = refl
+sum-parts f g h m (row ∷ rows) all each = omega (arith, each row all.0, sum-parts f g h m rows all.1 each, sum_by-cons f row rows, sum_by-cons g row rows, sum_by-cons h row rows)
+
 -- by a table of the parts of a whole
 pub satisfaction_value-by_parts : (m n : ℕ) (shares : List ℕ) (rows : List Row) (committee : List ℕ) → m ≤ most_candidates → AreBallots m rows → shares ≡ parts (common_multiple n)
     → sum_by (λ (r : Row). r.1 * hits r.0 committee * get_or shares (length r.0) 0) rows ≡ satisfaction_value n rows committee
@@ -69,20 +72,7 @@ satisfaction_value-by_parts m n shares [] committee most all is = refl
 satisfaction_value-by_parts m n shares (([], voters) ∷ rows) committee most all is =
     grind (arith, common_steps, satisfaction_value-by_parts m n shares rows committee most all.1 is, sum_by-cons, get_or)
 satisfaction_value-by_parts m n shares ((x ∷ ballot, voters) ∷ rows) committee most all is =
-    let own : List ℕ = x ∷ ballot in
-    let row : Row = (x ∷ ballot, voters) in
-    let here : get_or shares (length own) 0 ≡ common_multiple n / length own =
-    ap (λ s. get_or s (length own) 0) is ∙ parts-at (common_multiple n) (length own) (omega arith) (omega (arith, length-increasing 1 m own all.0)) in
-    let product : voters * hits own committee * get_or shares (length own) 0 ≡ voters * hits own committee * (common_multiple n / length own) =
-    ap (λ k. voters * hits own committee * k) here in
-    let kept : List Row = filter (λ (r : Row). not (length r.0 == 0)) rows in
-    let whole : satisfaction_value n (row ∷ rows) committee ≡ voters * hits own committee * (common_multiple n / length own) + satisfaction_value n rows committee =
-    ap (λ b. sum_by (λ (r : Row). r.1 * hits r.0 committee * (common_multiple n / length r.0)) (cond (not b) (row ∷ kept) kept)) (ne_eqb (length own) 0 (λ e. omega (arith, e)))
-    ∙ sum_by-cons (λ (r : Row). r.1 * hits r.0 committee * (common_multiple n / length r.0)) row kept in
-    let made : sum_by (λ (r : Row). r.1 * hits r.0 committee * get_or shares (length r.0) 0) (row ∷ rows) ≡ voters * hits own committee * get_or shares (length own) 0
-    + sum_by (λ (r : Row). r.1 * hits r.0 committee * get_or shares (length r.0) 0) rows =
-    sum_by-cons (λ (r : Row). r.1 * hits r.0 committee * get_or shares (length r.0) 0) row rows in
-    omega (arith, product, made, whole, satisfaction_value-by_parts m n shares rows committee most all.1 is)
+    grind (arith, common_steps, satisfaction_value-by_parts m n shares rows committee most all.1 is, parts-at, length-increasing, ne_eqb, sum_by-cons)
 
 -- no part is more than the whole
 pub parts-bound : (n : ℕ) (shares : List ℕ) (x : ℕ) → n ≤ most_candidates → shares ≡ parts (common_multiple n) → get_or shares x 0 < 2 ^ 90

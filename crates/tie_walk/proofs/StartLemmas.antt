@@ -1,6 +1,6 @@
 -- Walks from a start.
 use Rattle.std.proofs.lemmas.Grind.{common_steps}
-use Rattle.std.proofs.Common.{◌≡◌, ℕ, zero, suc, ◌<◌, ◌≤◌, ◌==◌, Bool, true, false, cond, List, [], ◌∷◌, ◌++◌, refl, sym, ap, ◌∙◌, subst, arith, inl, inr, length, filter, drop, get_or, All, Option, None, Some, Ordering, Less, Equal, Greater}
+use Rattle.std.proofs.Common.{◌≡◌, ℕ, zero, suc, ◌<◌, ◌≤◌, Bool, true, false, List, [], ◌∷◌, ◌++◌, refl, sym, ap, ◌∙◌, subst, arith, inl, inr, length, filter, drop, get_or, All, Option, None, Some, Ordering, Less, Equal, Greater}
 use Rattle.std.specs.List.{AllByRecursion}
 use Rattle.std.specs.List.Sorted.{IsPartitionedBy, IsPartitionPoint}
 use Rattle.std.specs.Cmp.Lexicographic.{slice_cmp}
@@ -12,14 +12,7 @@ use Rattle.ballot_base.proofs.Later.{IsLater-trans, later_than-member}
 -- ---- two tests, one after the other
 pub filter-swap : {X : Type 0} (p q : X → Bool) (xs : List X) → filter p (filter q xs) ≡ filter q (filter p xs)
 filter-swap p q [] = refl
-filter-swap p q (x ∷ xs) = by (p x) refl (q x) refl (filter-swap p q xs)
-  where
-    by : (b : Bool) → p x ≡ b → (d : Bool) → q x ≡ d → filter p (filter q xs) ≡ filter q (filter p xs)
-        → filter p (cond (q x) (x ∷ filter q xs) (filter q xs)) ≡ filter q (cond (p x) (x ∷ filter p xs) (filter p xs))
-    by true e true f more = rw (f, e, f) (ap (λ l. x ∷ l) more)
-    by true e false f more = rw (f, e, f) more
-    by false e true f more = rw (f, e) more
-    by false e false f more = rw (f, e) more
+filter-swap p q (x ∷ xs) = grind (arith, common_steps, filter-swap p q xs)
 
 -- the winners after a start, by a walk over the committees after it
 pub later_than-filter : (p : List ℕ → Bool) (start : Option (List ℕ)) (lists : List (List ℕ)) → filter p (later_than start lists) ≡ later_than start (filter p lists)
@@ -34,8 +27,7 @@ all-later_than P (Some start) (x ∷ lists) all =
 
 -- after one of the lists come those that stand after it
 pub later_than-at : (lists before after : List (List ℕ)) (start : List ℕ) → AreInOrder lists → lists ≡ before ++ start ∷ after → later_than (Some start) lists ≡ after
-later_than-at lists before after start order is =
-    ap (later_than (Some start)) is ∙ later_than-member before start after (subst AreInOrder is order)
+later_than-at lists before after start order is = grind (arith, common_steps, later_than-member)
 
 -- ---- the place of a start
 after-greater : (o : Ordering) → is_le o ≡ true → is_gt o ≡ false
@@ -52,8 +44,7 @@ abbrev pub is_up_to : List ℕ → List ℕ → Bool
 is_up_to start set = is_le (slice_cmp nat_cmp set start)
 
 later-from : (set start : List ℕ) → length set ≡ length start → is_up_to start set ≡ false → is_later set start ≡ true
-later-from set start size e =
-    and_from (length set == length start) (is_gt (slice_cmp nat_cmp set start)) (eq-eqb (length set) (length start) size) (greater-after (slice_cmp nat_cmp set start) e)
+later-from set start size e = grind (arith, common_steps, and_from, eq-eqb, greater-after)
 
 earlier-from : (set start : List ℕ) → is_up_to start set ≡ true → is_later set start ≡ false
 earlier-from set start e = grind (arith, common_steps, cases_Bool, false≢true, after-greater, and_parts)

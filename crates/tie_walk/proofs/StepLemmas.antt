@@ -1,9 +1,10 @@
 -- The best candidates of a set, found one by one.
 use Rattle.std.proofs.lemmas.Grind.{common_steps}
-use Rattle.std.proofs.Common.{◌≡◌, ℕ, zero, suc, ◌+◌, ◌-◌, ◌<◌, ◌≤◌, ◌^◌, ◌==◌, ◌&&◌, ◌++◌, Bool, true, false, cond, List, [], ◌∷◌, refl, sym, ap, ◌∙◌, arith, inl, inr, map, filter, min, append-nil}
+use Rattle.std.proofs.Common.{◌≡◌, ℕ, zero, suc, ◌+◌, ◌-◌, ◌<◌, ◌≤◌, ◌^◌, ◌==◌, ◌&&◌, ◌++◌, Bool, true, false, cond, List, [], ◌∷◌, sym, ap, ◌∙◌, arith, inl, inr, map, filter, min, append-nil}
 use Rattle.std.specs.Prelude.{fold, nat_le}
 use Rattle.std.specs.List.{list_all, range_with_len, AllByRecursion}
 use Rattle.std.proofs.lemmas.Bool.{cases_Bool, eqb-true, eq-eqb, or_left, or_cases, and_left}
+use Rattle.std.proofs.lemmas.List.{map-append}
 use Rattle.std.proofs.lemmas.List.Elements.{filter-append}
 use Rattle.std.proofs.lemmas.List.Sums.{fold-append}
 use Rattle.std.proofs.Math.Bool.{and_assoc, and-true}
@@ -28,21 +29,16 @@ range-next c low = grind (arith, common_steps, range-more)
 pub filter-next : (p : ℕ → Bool) (c : ℕ) → 1 ≤ c → filter p (range_with_len 1 (c + 1 - 1)) ≡ filter p (range_with_len 1 (c - 1)) ++ cond (p c) (c ∷ []) []
 filter-next p c low = ap (filter p) (range-next c low) ∙ filter-append p (range_with_len 1 (c - 1)) (c ∷ [])
 
-map-push : {X Y : Type 0} (f : X → Y) (xs ys : List X) → map f (xs ++ ys) ≡ map f xs ++ map f ys
-map-push f [] ys = refl
-map-push f (x ∷ xs) ys = ap (λ l. f x ∷ l) (map-push f xs ys)
-
 pub best-taken : (f : ℕ → ℕ → ℕ) (low : ℕ) (w : ℕ → ℕ) (p : ℕ → Bool) (c : ℕ) → 1 ≤ c → p c ≡ true
     → fold f low (map w (filter p (range_with_len 1 (c + 1 - 1)))) ≡ f (fold f low (map w (filter p (range_with_len 1 (c - 1))))) (w c)
-best-taken f low w p c start is = grind (arith, common_steps, filter, map, filter-next, map-push, fold-append)
+best-taken f low w p c start is = grind (arith, common_steps, filter, map, filter-next, map-append, fold-append)
 
 pub filter-left : (p : ℕ → Bool) (c : ℕ) → 1 ≤ c → p c ≡ false → filter p (range_with_len 1 (c + 1 - 1)) ≡ filter p (range_with_len 1 (c - 1))
-filter-left p c low is =
-    filter-next p c low ∙ ap (λ b. filter p (range_with_len 1 (c - 1)) ++ cond b (c ∷ []) []) is ∙ append-nil (filter p (range_with_len 1 (c - 1)))
+filter-left p c low is = grind (arith, common_steps, filter-next, append-nil)
 
 pub map-taken : {X : Type 0} (f : ℕ → X) (p : ℕ → Bool) (c : ℕ) → 1 ≤ c → p c ≡ true
     → map f (filter p (range_with_len 1 (c + 1 - 1))) ≡ map f (filter p (range_with_len 1 (c - 1))) ++ f c ∷ []
-map-taken f p c low is = grind (arith, common_steps, map, filter-next, filter, map-push)
+map-taken f p c low is = grind (arith, common_steps, map, filter-next, filter, map-append)
 
 pub has_member-range : (a n c : ℕ) → a ≤ c → c < a + n → has_member (range_with_len a n) c ≡ true
 has_member-range a zero c low high = absurd (omega arith)
@@ -54,10 +50,7 @@ has_member-range a (suc n) c low high = elim (cases_Bool (a == c)) [
 ]
 
 at_member : (P : ℕ → Type 0) (xs : List ℕ) (c : ℕ) → AllByRecursion P xs → has_member xs c ≡ true → P c
-at_member P [] c all is = elim (true_is_not (sym is)) [ ]
-  where
-    true_is_not : true ≡ false → ⊥
-    true_is_not e = cc
+at_member P [] c all is = grind (arith, common_steps)
 at_member P (x ∷ xs) c all is = elim (or_cases (x == c) (has_member xs c) is) [
   | inl same ↦ subst_at (eqb-true x c same) all.0
   | inr later ↦ at_member P xs c all.1 later
@@ -97,9 +90,7 @@ no_more n most h = grind arith
 pub best-is : (step : Step) (w : ℕ → ℕ) (xs : List ℕ) (c : ℕ) → has_member xs c ≡ true → w c ≤ 2 ^ 128 - 1
     → (w c == fold (better step) (worst step) (map w xs)) ≡ list_all (λ d. is_no_better step (w d) (w c)) xs
 best-is Grow w xs c inside fits =
-    let best = greatest w 0 xs in
-    sym (at_least_is_equal (w c) best (at_member (λ d. w d ≤ best) xs c (values-greatest w 0 xs) inside))
-    ∙ sym (bounds-greatest w 0 (w c) xs) ∙ ap (λ b. b && list_all (λ d. nat_le (w d) (w c)) xs) (least (w c))
+    grind (arith, common_steps, greatest w 0 xs, at_least_is_equal, at_member, values-greatest w 0 xs, bounds-greatest w 0 (w c) xs, least (w c))
 best-is Shrink w xs c inside fits =
     let high = 2 ^ 128 - 1 in
     let best = lowest w high xs in

@@ -54,14 +54,7 @@ module _ (value : List ℕ → ℕ) (falls : IsSubmodular value) where
   -- the greatest gains bound every completion
   pub ceiling-bounds : (m c : ℕ) (set : List ℕ) (left : ℕ) → IsIncreasing 1 c set → IsBound value m c set left (ceiling value m c set left)
   ceiling-bounds m c set left up added above size =
-      let none : set ++ [] ≡ set = append-nil set in
-      omega (
-        arith,
-        rw none at (gains-bound set [] added),
-        same_gains c m set added up above,
-        greatest_sum-bounds (gain_at value set) (c + 1) m added above,
-        ap (greatest_sum (gain_at value set) (c + 1) m) size,
-      )
+      grind (arith, common_steps, append-nil set, gains-bound set [] added, same_gains c m set added up above, greatest_sum-bounds)
 
 -- ---- hits
 
@@ -93,6 +86,12 @@ pub hits-more : (ballot set added : List ℕ) → hits ballot set ≤ hits ballo
 hits-more [] set added = omega arith
 hits-more (n ∷ ballot) set added =
     grind (arith, common_steps, hits-more ballot set added, list_any-append, bits-more, sum_by-cons)
+
+-- a sum over the rows
+sum-submodular : (f : Row → List ℕ → ℕ) → ((r : Row) → IsSubmodular (f r)) → (rows : List Row) → IsSubmodular (λ set. sum_by (λ (r : Row). f r set) rows)
+sum-submodular f each [] set added x = omega arith
+sum-submodular f each (row ∷ rows) set added x =
+    grind (arith, common_steps, each row set added x, sum-submodular f each rows set added x, sum_by-cons)
 
 -- ---- Thiele's rules
 
@@ -140,45 +139,19 @@ module _ (w : List ℕ) (falls : (i : ℕ) → get_or w (i + 1) 0 ≤ get_or w i
       )
 
   pub thiele-submodular : (rows : List Row) → IsSubmodular (thiele_value w rows)
-  thiele-submodular [] set added x = omega arith
-  thiele-submodular (row ∷ rows) set added x =
-      let worth : List ℕ → ℕ = λ s. sum (take (hits row.0 s) w) in
-      let one : worth ((set ++ added) ++ x ∷ []) + worth set ≤ worth (set ++ added) + worth (set ++ x ∷ []) =
-      voter-submodular (hits row.0 set) (hits row.0 (set ++ added)) (hits row.0 (set ++ x ∷ [])) (hits row.0 ((set ++ added) ++ x ∷ []))
-      (hits-more row.0 set added) (hits-more row.0 set (x ∷ [])) (hits-more row.0 (set ++ added) (x ∷ [])) (hits-submodular row.0 set added x) in
-      let product : row.1 * (worth ((set ++ added) ++ x ∷ []) + worth set) ≤ row.1 * (worth (set ++ added) + worth (set ++ x ∷ [])) = mul-le-mul_left row.1 one in
-      let left : row.1 * (worth ((set ++ added) ++ x ∷ []) + worth set) ≡ row.1 * worth ((set ++ added) ++ x ∷ []) + row.1 * worth set = omega arith in
-      let right : row.1 * (worth (set ++ added) + worth (set ++ x ∷ [])) ≡ row.1 * worth (set ++ added) + row.1 * worth (set ++ x ∷ []) = omega arith in
-      omega (
-        arith,
-        thiele-submodular rows set added x,
-        sum_by-cons (λ (r : Row). r.1 * sum (take (hits r.0 set) w)) row rows,
-        sum_by-cons (λ (r : Row). r.1 * sum (take (hits r.0 (set ++ added)) w)) row rows,
-        sum_by-cons (λ (r : Row). r.1 * sum (take (hits r.0 (set ++ x ∷ [])) w)) row rows,
-        sum_by-cons (λ (r : Row). r.1 * sum (take (hits r.0 ((set ++ added) ++ x ∷ [])) w)) row rows,
-      )
+  thiele-submodular = sum-submodular (λ (r : Row) set. r.1 * sum (take (hits r.0 set) w)) each
+    where
+      each : (r : Row) → IsSubmodular (λ set. r.1 * sum (take (hits r.0 set) w))
+      each r set added x =
+          let product = mul-le-mul_left r.1 (voter-submodular (hits r.0 set) (hits r.0 (set ++ added)) (hits r.0 (set ++ x ∷ [])) (hits r.0 ((set ++ added) ++ x ∷ []))
+          (hits-more r.0 set added) (hits-more r.0 set (x ∷ [])) (hits-more r.0 (set ++ added) (x ∷ [])) (hits-submodular r.0 set added x)) in
+          omega (arith, product)
 
 -- ---- satisfaction approval
 
 shares-submodular : (share : Row → ℕ) (rows : List Row) → IsSubmodular (λ set. sum_by (λ (r : Row). r.1 * hits r.0 set * share r) rows)
-shares-submodular share [] set added x = omega arith
-shares-submodular share (row ∷ rows) set added x =
-    let a = hits row.0 ((set ++ added) ++ x ∷ []) in
-    let b = hits row.0 set in
-    let c = hits row.0 (set ++ added) in
-    let d = hits row.0 (set ++ x ∷ []) in
-    let product : (row.1 * share row) * (a + b) ≤ (row.1 * share row) * (c + d) = mul-le-mul_left (row.1 * share row) (hits-submodular row.0 set added x) in
-    let split : (u v n s : ℕ) → (n * s) * (u + v) ≡ n * u * s + n * v * s = λ u v n s. omega arith in
-    omega (
-      arith,
-      split a b row.1 (share row),
-      split c d row.1 (share row),
-      shares-submodular share rows set added x,
-      sum_by-cons (λ (r : Row). r.1 * hits r.0 set * share r) row rows,
-      sum_by-cons (λ (r : Row). r.1 * hits r.0 (set ++ added) * share r) row rows,
-      sum_by-cons (λ (r : Row). r.1 * hits r.0 (set ++ x ∷ []) * share r) row rows,
-      sum_by-cons (λ (r : Row). r.1 * hits r.0 ((set ++ added) ++ x ∷ []) * share r) row rows,
-    )
+shares-submodular share =
+    sum-submodular (λ (r : Row) set. r.1 * hits r.0 set * share r) (λ r set added x. let product = mul-le-mul_left (r.1 * share r) (hits-submodular r.0 set added x) in omega (arith, product))
 
 pub satisfaction-submodular : (m : ℕ) (rows : List Row) → IsSubmodular (satisfaction_value m rows)
 satisfaction-submodular m rows = shares-submodular (λ (r : Row). common_multiple m / length r.0) (filter (λ (r : Row). not (length r.0 == 0)) rows)

@@ -22,13 +22,10 @@ filter-fewer p q (x ∷ xs) more =
     by (p x) refl (q x) refl (more x (has_member_head x xs)) (filter-fewer p q xs (λ n in_. more n (ap (λ b. (x == n) || b) in_ ∙ or-true (x == n))))
   where
     by : (b : Bool) → p x ≡ b → (b' : Bool) → q x ≡ b' → (p x ≡ true → q x ≡ true) → length (filter p xs) ≤ length (filter q xs) → length (filter p (x ∷ xs)) ≤ length (filter q (x ∷ xs))
-    by true here true there first rest =
-        omega (arith, ap (λ b. length (cond b (x ∷ filter p xs) (filter p xs))) here, ap (λ b. length (cond b (x ∷ filter q xs) (filter q xs))) there, rest)
+    by true here true there first rest = grind (arith, common_steps, rest)
     by true here false gone first rest = absurd (let e : true ≡ false = sym (first here) ∙ gone in cc)
-    by false gone true there first rest =
-        omega (arith, ap (λ b. length (cond b (x ∷ filter p xs) (filter p xs))) gone, ap (λ b. length (cond b (x ∷ filter q xs) (filter q xs))) there, rest)
-    by false gone false gone' first rest =
-        omega (arith, ap (λ b. length (cond b (x ∷ filter p xs) (filter p xs))) gone, ap (λ b. length (cond b (x ∷ filter q xs) (filter q xs))) gone', rest)
+    by false gone true there first rest = grind (arith, common_steps, rest)
+    by false gone false gone' first rest = grind (arith, common_steps, rest)
 
 module _ (worth : ℕ → ℕ) (t : ℕ) where
   -- what numbers exceed the threshold by
@@ -121,6 +118,4 @@ after-fits c m left numbers are fits = omega (arith, fits, ap length are, length
 
 -- sums of amounts fit
 pub sum-fits : (worth : ℕ → ℕ) (c m left : ℕ) → ((n : ℕ) → worth n < 2 ^ 122) → left ≤ 64 → greatest_sum worth (c + 1) m left < 2 ^ 128
-sum-fits worth c m left small few =
-    let product : left * (2 ^ 122 - 1) ≤ 64 * (2 ^ 122 - 1) = mul-le-mul_right (2 ^ 122 - 1) few in
-    omega (arith, product, sum-most worth c m left (2 ^ 122 - 1) (λ n. omega (arith, small n)))
+sum-fits worth c m left small few = grind (arith, common_steps, mul-le-mul_right (2 ^ 122 - 1) few, sum-most)

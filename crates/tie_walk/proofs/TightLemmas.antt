@@ -1,26 +1,26 @@
 -- Bounds that are the value of a completion: under approval voting and satisfaction approval voting each candidate gives
 -- a committee the same, whoever else is in it.
 use Rattle.std.proofs.lemmas.Grind.{common_steps}
-use Rattle.std.proofs.Common.{◌≡◌, ℕ, zero, suc, ◌+◌, ◌-◌, ◌*◌, ◌<◌, ◌≤◌, ◌∙◌, false, cond, List, [], ◌∷◌, ◌++◌, refl, sym, ap, arith, inl, inr, length, length-append, append_assoc, sum_by, add-one, append-nil}
+use Rattle.std.proofs.Common.{◌≡◌, ℕ, zero, suc, ◌+◌, ◌-◌, ◌*◌, ◌<◌, ◌≤◌, ◌∙◌, cond, List, [], ◌∷◌, ◌++◌, refl, sym, ap, arith, inl, inr, length, length-append, append_assoc, sum_by, add-one, append-nil}
 use Rattle.std.proofs.lemmas.Bool.{cases_lt}
 use Rattle.std.proofs.lemmas.List.Sums.{sum_by-cons}
 use Rattle.ballot_base.specs.Limits.{most_members}
 use Rattle.ballot_base.specs.Lists.{IsIncreasing}
-use Rattle.ballot_base.specs.CandSet.{has_member, with_member}
+use Rattle.ballot_base.specs.CandSet.{has_member}
 use Rattle.ballot_base.specs.CommonMultiple.{common_multiple}
 use Rattle.ballot_base.specs.Increments.{increments}
 use Rattle.ballot_base.specs.declared.increments.ThieleRule.TheVariants.{Av}
 use Rattle.ballot_base.specs.Ballots.{Row, Election, IsElection, hits}
-use Rattle.ballot_base.proofs.Increasing.{IsIncreasing-push, IsIncreasing-lower, with_member-above, with_member-lt, has_member-above, has_member-below}
+use Rattle.ballot_base.proofs.Increasing.{IsIncreasing-push, IsIncreasing-lower, IsIncreasing-higher, with_member-above, has_member-above}
 use Rattle.ballot_base.proofs.WeightLemmas.{increments-within}
 use Rattle.tie_walk.specs.Ceilings.{IsTight, ceiling, gain_at, greatest_sum}
 use Rattle.tie_walk.specs.Steps.Tables.{parts, score}
 use Rattle.tie_walk.specs.Values.{thiele_value, satisfaction_value}
 use Rattle.tie_walk.specs.declared.sequential.Step.TheVariants.{Grow}
-use Rattle.tie_walk.proofs.Gains.{hits-with, hits-none, thiele-partial, satisfaction-more, satisfaction-nothing}
+use Rattle.tie_walk.proofs.Gains.{thiele-partial, satisfaction-more, satisfaction-nothing}
 use Rattle.tie_walk.proofs.GreatestSums.{best_of, best_of-none, best_of-short, best_of-more, greatest_sum-same, ceiling-whole}
-use Rattle.tie_walk.proofs.HitWeights.{one-most}
-use Rattle.tie_walk.proofs.RowSums.{AreBallots}
+use Rattle.tie_walk.proofs.Distances.{common-least_right}
+use Rattle.tie_walk.proofs.RowSums.{AreBallots, length-common}
 use Rattle.tie_walk.proofs.WorthLemmas.{partial}
 
 -- some list has the greatest sum
@@ -85,21 +85,10 @@ module _ (value : List ℕ → ℕ) (m k : ℕ) (worth : ℕ → ℕ)
 
 -- a committee has no more hits than members
 pub hits-most : (first last first' last' : ℕ) (ballot set : List ℕ) → IsIncreasing first last ballot → IsIncreasing first' last' set → hits ballot set ≤ length set
-hits-most first last first' last' ballot [] up is = omega (arith, hits-none ballot)
-hits-most first last first' last' ballot (x ∷ set) up is =
-    let here : with_member set x ≡ x ∷ set = front set is.2 in
-    let none : has_member set x ≡ false = has_member-below (x + 1) last' set x is.2 (omega arith) in
-    omega (
-      arith,
-      ap (hits ballot) here,
-      hits-with first last ballot set x up none,
-      one-most (has_member ballot x),
-      hits-most first last (x + 1) last' ballot set up is.2,
-    )
-  where
-    front : (rest : List ℕ) → IsIncreasing (x + 1) last' rest → with_member rest x ≡ x ∷ rest
-    front [] h = refl
-    front (y ∷ rest) h = with_member-lt y rest x (omega (arith, h.0))
+hits-most first last first' last' ballot set up is =
+    let wide : IsIncreasing 0 (last + last') ballot = IsIncreasing-lower 0 first (last + last') ballot (omega arith) (IsIncreasing-higher first last (last + last') ballot (omega arith) up) in
+    let wide' : IsIncreasing 0 (last + last') set = IsIncreasing-lower 0 first' (last + last') set (omega arith) (IsIncreasing-higher first' last' (last + last') set (omega arith) is) in
+    omega (arith, length-common ballot set, common-least_right 0 (last + last') ballot set wide wide')
 
 approvals : List Row → ℕ → ℕ
 approvals rows x = sum_by (λ (row : Row). row.1 * cond (has_member row.0 x) 1 0) rows

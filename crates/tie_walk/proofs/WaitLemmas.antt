@@ -1,7 +1,7 @@
 -- How long a walk over the winners can be: no place has much work left, and where bounds are exact at the best value,
 -- no winner is far.
 use Rattle.std.proofs.lemmas.Grind.{common_steps}
-use Rattle.std.proofs.Common.{◌≡◌, ℕ, suc, ◌+◌, ◌-◌, ◌*◌, ◌^◌, ◌<◌, ◌≤◌, ◌||◌, ◌∙◌, Bool, true, false, cond, List, [], ◌∷◌, ◌++◌, Option, None, Some, refl, sym, ap, arith, inl, inr, lit<, length, filter, map, sum_by, append_assoc, append-nil}
+use Rattle.std.proofs.Common.{◌≡◌, ℕ, ◌+◌, ◌-◌, ◌*◌, ◌^◌, ◌<◌, ◌≤◌, ◌||◌, ◌∙◌, Bool, true, false, cond, List, [], ◌∷◌, ◌++◌, Option, None, Some, refl, sym, ap, arith, inl, inr, lit<, length, filter, map, sum_by, append_assoc, append-nil}
 use Rattle.std.specs.Prelude.{nat_le}
 use Rattle.std.specs.List.{list_any}
 use Rattle.std.proofs.Math.Nat.{pow-suc, pow-le-pow_right}
@@ -20,17 +20,7 @@ use Rattle.tie_walk.proofs.WalkLemmas.{below-split, below-full}
 powers-most : (m first c : ℕ) (set : List ℕ) → c ≤ m → IsIncreasing first c set → sum_by (λ n. 3 ^ (m - n)) set ≤ 3 ^ (m + 1 - first)
 powers-most m first c [] inside up = omega arith
 powers-most m first c (x ∷ set) inside up =
-    let here : m + 1 - (x + 1) ≡ m - x = omega arith in
-    let next : m + 1 - x ≡ suc (m - x) = omega (arith, inside, up.1) in
-    omega (
-      arith,
-      sum_by-cons (λ n. 3 ^ (m - n)) x set,
-      powers-most m (x + 1) c set inside up.2,
-      ap (λ n. 3 ^ n) here,
-      ap (λ n. 3 ^ n) next,
-      pow-suc 3 (m - x),
-      pow-le-pow_right {n = 3} (omega arith) {i = m + 1 - x} {j = m + 1 - first} (omega (arith, up.0)),
-    )
+    grind (arith, common_steps, powers-most m (x + 1) c set inside up.2, sum_by-cons, pow-suc 3 (m - x), pow-le-pow_right)
 
 all_powers : 2 * 3 ^ most_candidates < 2 ^ 126
 all_powers = lit< tt
@@ -73,18 +63,8 @@ module _ (value : List ℕ → ℕ) (m k best : ℕ) where
       → is_open bound m k best c set ≡ true → is_alive value m k best c set ≡ true
   alive-open bound c set exact inside up is = grind (arith, common_steps, open-sizes, open-reaches, alive-added)
 
-  alive-full : (c d : ℕ) (set : List ℕ) → length set ≡ k → is_alive value m k best c set ≡ is_alive value m k best d set
-  alive-full c d set full = ap (list_any (λ list. nat_le best (value list))) (below-full m k c set full ∙ sym (below-full m k d set full))
-
   pub alive-whole : (c : ℕ) (set : List ℕ) → length set ≡ k → is_alive value m k best c set ≡ true → best ≤ value set
-  alive-whole c set full is = elim (cases_Bool (nat_le best (value set))) [
-    | inl high ↦ leb-true best (value set) high
-    | inr low ↦
-        absurd (no (sym is ∙ ap (list_any (λ list. nat_le best (value list))) (below-full m k c set full) ∙ ap (λ b. b || false) low))
-  ]
-    where
-      no : true ≡ false → ⊥
-      no e = absurd (cc)
+  alive-whole c set full is = grind (arith, common_steps, cases_Bool, leb-true, below-full)
 
   -- ---- how many bounds are asked for until a winner is found
 
@@ -110,39 +90,21 @@ module _ (value : List ℕ → ℕ) (m k best : ℕ) where
   -- past a prefix with nothing below
   pub wait-past : (prefix : Prefix) (next : Option Prefix) → IsPast prefix next → is_alive value m k best prefix.c prefix.set ≡ false
       → waits_from value m k best (Some prefix) ≡ 1 + waits_from value m k best next
-  wait-past prefix next is dead =
-      omega (arith, waits-past prefix next is, waits-dead (waits_after value m k best 0 [] prefix.set) prefix.c prefix.set dead)
+  wait-past prefix next is dead = grind (arith, common_steps, waits-past, waits-dead)
 
   -- down: where nothing is below the first child, something is below the second
   wait-child : (c : ℕ) (set : List ℕ) → c < m → length set < k → is_alive value m k best c set ≡ true
       → 1 + waits_at value m k best (waits_after value m k best 0 [] (set ++ (c + 1) ∷ [])) (c + 1) (set ++ (c + 1) ∷ [])
       ≤ waits_at value m k best (waits_after value m k best 0 [] set) c set
   wait-child c set more few alive =
-      let child : List ℕ = set ++ (c + 1) ∷ [] in
-      let above = waits_after value m k best 0 [] set in
-      elim (cases_Bool (is_alive value m k best (c + 1) child)) [
-        | inl first ↦
-            omega (arith, more, waits-alive above c set alive, waits-alive (waits_after value m k best 0 [] child) (c + 1) child first)
-        | inr dead ↦
-            let both : is_alive value m k best c set ≡ (is_alive value m k best (c + 1) child || is_alive value m k best (c + 1) set) =
-            ap (list_any (λ list. nat_le best (value list))) (below-split m k c set more few)
-            ∙ list_any-append (λ list. nat_le best (value list)) (committees_below m k (c + 1) child) (committees_below m k (c + 1) set) in
-            let second : is_alive value m k best (c + 1) set ≡ true = sym (ap (λ b. b || is_alive value m k best (c + 1) set) dead) ∙ sym both ∙ alive in
-            omega (
-              arith,
-              waits-alive above c set alive,
-              waits-dead (waits_after value m k best 0 [] child) (c + 1) child dead,
-              waits_after-push 0 [] set (c + 1),
-              waits-alive above (c + 1) set second,
-            )
-      ]
+      grind (arith, common_steps, cases_Bool, waits-alive, below-split, list_any-append, waits-dead, waits_after-push)
 
   pub wait-first : (prefix next : Prefix) → prefix.c < m → IsPlace m k (Some prefix) → next.c ≡ prefix.c + 1
       → (length prefix.set < k → next.set ≡ prefix.set ++ (prefix.c + 1) ∷ []) → (length prefix.set ≡ k → next.set ≡ prefix.set)
       → is_alive value m k best prefix.c prefix.set ≡ true
       → 1 + waits_from value m k best (Some next) ≤ waits_from value m k best (Some prefix)
   wait-first prefix next more here at grown full alive =
-      grind (arith, common_steps, cases_lt, wait-child, alive-full, waits-alive)
+      grind (arith, common_steps, cases_lt, wait-child, below-full, waits-alive)
 
   -- ---- no place waits long
 

@@ -1,6 +1,6 @@
 -- What a set gains by a candidate, or loses with one, over the rows.
 use Rattle.std.proofs.lemmas.Grind.{common_steps}
-use Rattle.std.proofs.Common.{◌≡◌, ℕ, zero, suc, ◌+◌, ◌*◌, ◌≤◌, ◌^◌, ◌&&◌, Bool, true, false, cond, List, [], ◌∷◌, Some, refl, ap, arith, take, get_or, slice_get, sum_by, replicate}
+use Rattle.std.proofs.Common.{◌≡◌, ℕ, zero, suc, ◌+◌, ◌*◌, ◌≤◌, ◌^◌, ◌&&◌, Bool, true, false, cond, List, [], ◌∷◌, Some, refl, arith, take, get_or, slice_get, sum_by, replicate}
 use Rattle.std.proofs.lemmas.List.Sums.{sum_by-cons}
 use Rattle.ballot_base.specs.CandSet.{has_member}
 use Rattle.ballot_base.specs.Ballots.{Row, Election, IsElection, hits}
@@ -67,7 +67,6 @@ pub not_wanted : (b : Bool) (n : ℕ) → n ≡ 0 → cond b n 0 ≡ 0
 not_wanted true n none = none
 not_wanted false n none = refl
 
-pub wanted-step : (wanted member both : Bool) (part worth more total next : ℕ) → both ≡ (wanted && member) → total ≡ cond wanted part 0
-    → next ≡ total + cond both worth 0 → more ≡ part + cond member worth 0 → next ≡ cond wanted more 0
-wanted-step true member both part worth more total next e was now grown = omega (arith, was, now, grown, ap (λ b. cond b worth 0) e)
-wanted-step false member both part worth more total next e was now grown = omega (arith, was, now, ap (λ b. cond b worth 0) e)
+pub wanted-step : (wanted member : Bool) (part worth : ℕ) → cond wanted part 0 + cond (wanted && member) worth 0 ≡ cond wanted (part + cond member worth 0) 0
+wanted-step true member part worth = refl
+wanted-step false member part worth = refl

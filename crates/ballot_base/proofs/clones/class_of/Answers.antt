@@ -1,4 +1,5 @@
-use Rattle.std.proofs.Common.{◌∙◌, sym, ap, filter, length, take}
+use Rattle.std.proofs.lemmas.Grind.{common_steps}
+use Rattle.std.proofs.Common.{◌∙◌, sym, ap, filter, length, take, arith}
 use Rattle.std.specs.List.{range_with_len}
 use Rattle.std.proofs.lemmas.List.{length_push}
 use Rattle.ballot_base.specs.Ballots.{Row}
@@ -9,9 +10,7 @@ use Rattle.ballot_base.proofs.CloneLemmas.{clones-none, clones-approved, clones-
 use Rattle.ballot_base.proofs.clones.class_of.Goals as goal
 
 pub loop-ballot-init : goal.loop-ballot-init
-loop-ballot-init g c =
-    let e = c.args.profile.now in
-    c.all-clones.ensures ∙ ap (range_with_len 1) c.m.ensures.value ∙ clones-none e.m c.args.c
+loop-ballot-init g c = grind (arith, common_steps, clones-none)
 
 pub loop-ballot-preserved-then-has : goal.loop-ballot-preserved-then-has
 loop-ballot-preserved-then-has g c =

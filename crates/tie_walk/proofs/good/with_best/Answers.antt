@@ -1,14 +1,12 @@
-use Rattle.std.proofs.Common.{◌≡◌, ◌+◌, ◌≤◌, ◌∙◌, sym, subst, arith, length}
-use Rattle.ballot_base.specs.Lists.{IsIncreasing}
+use Rattle.std.proofs.lemmas.Grind.{common_steps}
+use Rattle.std.proofs.Common.{◌+◌, ◌≤◌, ◌∙◌, sym, subst, arith}
 use Rattle.ballot_base.proofs.Increasing.{IsIncreasing-with_member}
 use Rattle.tie_walk.proofs.BestLemmas.{IsOneMore, one-more-member, one-more-kept, one-more-found, one-more-done}
 use Rattle.tie_walk.proofs.good.with_best.Goals as goal
 use Rattle.tie_walk.proofs.good.with_best.Goals.{then-not-has+then-value-best, then-not-has+else-value-best, else-not-has}
 
 pub value-value-requires : goal.value-value-requires
-value-value-requires g c =
-    let up = IsIncreasing-with_member 1 (g.T.Tally.candidates c.args.tally.now) c.args.set c.loop-n.n c.loop-n.auto.n (omega (arith, c.loop-n-test.true, c.m-n-end.ensures.value)) c.requires.members in
-    subst (IsIncreasing 1 (g.T.Tally.candidates c.args.tally.now)) (sym c.with-more.ensures) up
+value-value-requires g c = grind (arith, common_steps, IsIncreasing-with_member)
 
 pub loop-n-preserved : goal.loop-n-preserved
 loop-n-preserved g c =
@@ -29,7 +27,4 @@ loop-n-preserved g c =
     ]
 
 pub returns-clause-size : goal.returns-clause-size
-returns-clause-size g c =
-    let end : c.loop-n.n ≡ (g.T.Tally.candidates c.args.tally.now) + 1 = omega (arith, c.loop-n-test.false, c.loop-n.auto.n-end, c.m-n-end.ensures.value) in
-    subst (λ s. length s ≡ length c.args.set + 1) (sym c.unwrap_or.ensures)
-    (one-more-done (g.T.Tally.candidates c.args.tally.now) c.args.set c.loop-n.best c.loop-n.grown c.requires.members c.requires.room (subst (λ n. IsOneMore (g.T.Tally.candidates c.args.tally.now) c.args.set n c.loop-n.best c.loop-n.grown) end c.loop-n.invariant)).1
+returns-clause-size g c = grind (arith, common_steps, one-more-done, IsOneMore)

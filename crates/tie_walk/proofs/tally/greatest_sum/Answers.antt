@@ -1,3 +1,4 @@
+use Rattle.std.proofs.lemmas.Grind.{common_steps}
 use Rattle.std.proofs.Common.{ℕ, ◌*◌, ap, arith, get_or}
 use Rattle.tie_walk.proofs.Thresholds.{after-fits, sum-fits, sum-is, sum-most}
 use Rattle.tie_walk.proofs.tally.greatest_sum.Goals as goal
@@ -22,7 +23,4 @@ returns-clause-value c =
     )
 
 pub returns-clause-most : goal.returns-clause-most
-returns-clause-most c most each =
-    let w : ℕ → ℕ = λ n. get_or c.args.worths.now n 0 in
-    let value = returns-clause-value c in
-    omega (arith, value, sum-most w c.args.c c.args.m c.args.left most each)
+returns-clause-most c most each = grind (arith, common_steps, returns-clause-value, sum-most)

@@ -1,3 +1,4 @@
+use Rattle.std.proofs.lemmas.Grind.{common_steps}
 use Rattle.std.proofs.Common.{◌<◌, ◌+◌, ◌-◌, ◌^◌, sym, subst, arith}
 use Rattle.std.proofs.lemmas.Nat.{pow_below, and_le_l}
 use Rattle.ballot_base.specs.Limits.{most_candidates}
@@ -12,8 +13,7 @@ returns-then-absent-eq0 c =
     rw (← c.self.view_is) (last_if_all c.self.inside.bits c.args.m c.numbers_to.result c.self.invariant c.requires.most c.numbers_to.ensures inc c.if-absent-eq0.true)
 
 pub greatest-free-requires-clause-most : goal.greatest-free-requires-clause-most
-greatest-free-requires-clause-most c =
-    omega (arith, bound_of_up_to c.args.m c.requires.most, c.numbers_to.ensures, and_le_l c.numbers_to.result (2 ^ 64 - 1 - c.self.inside.bits))
+greatest-free-requires-clause-most c = grind (arith, common_steps, bound_of_up_to, and_le_l)
 
 pub returns-then-below-eq0 : goal.returns-then-below-eq0
 returns-then-below-eq0 c =
@@ -33,9 +33,7 @@ numbers_to-requires-3 c =
     let bits = c.self.inside.bits in
     let f = c.greatest-free.ensures in
     let l = c.greatest-last.ensures in
-    let free = free_of bits c.args.m c.numbers_to.result c.greatest-free.result c.self.invariant c.requires.most c.numbers_to.ensures f.low f.high f.member f.above in
-    let growing = growing_of bits c.numbers_to-2.result c.greatest-free.result c.greatest-last.result c.numbers_to-2.ensures f.low l.low l.member l.above in
-    omega (arith, free.most, growing.less, c.requires.most)
+    grind (arith, common_steps, free_of bits c.args.m c.numbers_to.result c.greatest-free.result c.self.invariant c.requires.most c.numbers_to.ensures f.low f.high f.member f.above, growing_of bits c.numbers_to-2.result c.greatest-free.result c.greatest-last.result c.numbers_to-2.ensures f.low l.low l.member l.above)
 
 pub overflow_sub-run : goal.overflow_sub-run
 overflow_sub-run c =

@@ -1,16 +1,12 @@
-use Rattle.std.proofs.Common.{◌≡◌, sym, ap, ◌∙◌, arith}
-use Rattle.ballot_base.specs.Ballots.{name_of, some_name}
+use Rattle.std.proofs.lemmas.Grind.{common_steps}
+use Rattle.std.proofs.Common.{sym, ◌∙◌, arith}
 use Rattle.ballot_base.proofs.Names.{name_of-kept, some_name-none, some_name-some}
 use Rattle.ballot_base.proofs.profile.Profile.name.Goals as goal
 
 pub returns-then-is_empty-clause-value : goal.returns-then-is_empty-clause-value
 returns-then-is_empty-clause-value g c =
-    let kept : name_of c.args.self.now c.args.n ≡ some_name c.index.result.now.items =
-    name_of-kept _ _ c.args.n c.self.inside.names.items c.self.inside.rows c.args.self.now c.index.result.now c.self.view_is c.self.invariant.0.valid.names (omega (arith, c.if-n-eq0.false)) c.if-n-self.false c.from.ensures c.index.ensures in
-    sym (kept ∙ ap some_name (sym c.as_slice-name.ensures.value) ∙ some_name-none c.as_slice-name.result.now (sym c.is_empty.ensures ∙ c.if-is_empty.true))
+    grind (arith, common_steps, name_of-kept _ _ c.args.n c.self.inside.names.items c.self.inside.rows c.args.self.now c.index.result.now c.self.view_is c.self.invariant.0.valid.names (omega (arith, c.if-n-eq0.false)) c.if-n-self.false c.from.ensures c.index.ensures, some_name-none c.as_slice-name.result.now (sym c.is_empty.ensures ∙ c.if-is_empty.true))
 
 pub returns-else-is_empty-clause-value : goal.returns-else-is_empty-clause-value
 returns-else-is_empty-clause-value g c =
-    let kept : name_of c.args.self.now c.args.n ≡ some_name c.index.result.now.items =
-    name_of-kept _ _ c.args.n c.self.inside.names.items c.self.inside.rows c.args.self.now c.index.result.now c.self.view_is c.self.invariant.0.valid.names (omega (arith, c.if-n-eq0.false)) c.if-n-self.false c.from.ensures c.index.ensures in
-    sym (kept ∙ ap some_name (sym c.as_slice-name.ensures.value) ∙ some_name-some c.as_slice-name.result.now (sym c.is_empty.ensures ∙ c.if-is_empty.false))
+    grind (arith, common_steps, name_of-kept _ _ c.args.n c.self.inside.names.items c.self.inside.rows c.args.self.now c.index.result.now c.self.view_is c.self.invariant.0.valid.names (omega (arith, c.if-n-eq0.false)) c.if-n-self.false c.from.ensures c.index.ensures, some_name-some c.as_slice-name.result.now (sym c.is_empty.ensures ∙ c.if-is_empty.false))

@@ -1,8 +1,9 @@
+use Rattle.std.proofs.lemmas.Grind.{common_steps}
 use Rattle.std.proofs.Common.{◌≡◌, ℕ, ◌+◌, ◌-◌, ◌^◌, ◌≤◌, ◌<◌, ◌∙◌, List, refl, ap, sym, subst, arith, get_or}
 use Rattle.ballot_base.specs.Ballots.{Election}
 use Rattle.ballot_base.specs.CommonMultiple.{common_multiple}
 use Rattle.ballot_base.proofs.Increasing.{IsIncreasing-higher}
-use Rattle.tie_walk.specs.Ceilings.{IsBound, ceiling, greatest_sum}
+use Rattle.tie_walk.specs.Ceilings.{IsBound}
 use Rattle.tie_walk.specs.Steps.Tables.{parts}
 use Rattle.tie_walk.specs.Values.{satisfaction_value}
 use Rattle.tie_walk.proofs.Gains.{score-most, satisfaction-ceiling, satisfaction-fits}
@@ -14,11 +15,7 @@ pub value-requires : goal.value-requires
 value-requires g c = IsIncreasing-higher 1 c.args.c c.args.self.now.m c.args.set c.requires.within c.requires.candidates
 
 pub greatest_sum-requires-clause-small : goal.greatest_sum-requires-clause-small
-greatest_sum-requires-clause-small g c n =
-    let e : Election = c.self.inside.profile.now in
-    let shares : List ℕ = parts (common_multiple e.m) in
-    let small : (i : ℕ) → get_or shares i 0 ≤ 2 ^ 90 - 1 = λ i. omega (arith, parts-bound e.m shares i c.self.invariant.election.most refl) in
-    omega (arith, c.self.invariant.scores_are n, score-most shares n small e c.self.invariant.election)
+greatest_sum-requires-clause-small g c n = grind (arith, common_steps, parts-bound, score-most)
 
 pub overflow_add-result : goal.overflow_add-result
 overflow_add-result g c =
@@ -36,18 +33,7 @@ overflow_add-result g c =
     omega arith
 
 pub returns-clause-value : goal.returns-clause-value
-returns-clause-value g c =
-    let e : Election = c.self.inside.profile.now in
-    let t = c.self.inside in
-    let same : e ≡ c.args.self.now = c.self.view_is in
-    let shares : List ℕ = parts (common_multiple e.m) in
-    let value : c.value.result ≡ satisfaction_value e.m e.rows c.args.set = c.value.ensures ∙ ap (λ (x : Election). satisfaction_value x.m x.rows c.args.set) (sym same) in
-    let more : c.greatest_sum.result ≡ greatest_sum (λ n. get_or t.scores n 0) (c.args.c + 1) e.m c.args.left =
-    c.greatest_sum.ensures.value ∙ ap (λ n. greatest_sum (λ x. get_or t.scores x 0) (c.args.c + 1) n c.args.left) c.m.ensures.value in
-    let whole : c.value.result + c.greatest_sum.result ≡ ceiling (satisfaction_value e.m e.rows) e.m c.args.c c.args.set c.args.left =
-    ap (λ n. n + c.greatest_sum.result) value ∙ ap (λ n. satisfaction_value e.m e.rows c.args.set + n) more
-    ∙ satisfaction-ceiling e shares t.scores c.args.c c.args.left c.args.set c.self.invariant.election c.requires.candidates refl c.self.invariant.scores_are in
-    whole ∙ ap (λ (x : Election). ceiling (satisfaction_value x.m x.rows) x.m c.args.c c.args.set c.args.left) same
+returns-clause-value g c = grind (arith, common_steps, satisfaction-ceiling)
 
 pub returns-clause-law : goal.returns-clause-law
 returns-clause-law g c =

@@ -1,14 +1,14 @@
 use Rattle.std.proofs.Common.{◌≡◌, ◌+◌, ◌-◌, ◌≤◌, [], Some}
 use Rattle.ballot_base.specs.CandSet.{members_upto}
 use Rattle.tie_walk.specs.Ceilings.{live_below, live_count}
-use Rattle.tie_walk.specs.Steps.Walks.{open_after, IsWalk, aim}
+use Rattle.tie_walk.specs.Steps.Walks.{open_after, IsWalk, aim, aim_at}
 use Rattle.tie_walk.proofs.walk.Walk.begin_after.Given as goal
 
 -- what is live below the beginning of the start, and what is still to be entered after it, is all live, and with what
 -- was entered it is all that is
 abbrev pub invariant-loop-c : goal.invariant-loop-c
 invariant-loop-c g l =
-    let a = aim l.initial.walk in
+    let a = aim_at l.fn.tally (g.T.Tally.candidates l.fn.tally) l.fn.k l.fn.best in
     let bound = g.T.Tally.bound_of a.tally in
     record {
       walk : IsWalk g.T.Tally.candidates l.walk;

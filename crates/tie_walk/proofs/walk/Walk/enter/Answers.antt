@@ -1,25 +1,17 @@
+use Rattle.std.proofs.lemmas.Grind.{common_steps}
 use Rattle.std.proofs.Common.{◌≡◌, ◌-◌, ap, sym, subst, arith, length}
 use Rattle.tie_walk.specs.Ceilings.{IsBound}
 use Rattle.tie_walk.proofs.OpenLemmas.{reaching-short, reaching-bound, shut-short, shut-low, open-is}
 use Rattle.tie_walk.proofs.walk.Walk.enter.Goals as goal
 
 pub returns-then-len-self-clause-open : goal.returns-then-len-self-clause-open
-returns-then-len-self-clause-open g c =
-    let p = c.args.prefix in
-    sym (shut-short (g.T.Tally.bound_of c.args.self.now.tally.now) c.args.self.now.m c.args.self.now.k c.args.self.now.best p.c p.set (omega (arith, c.if-len-self.true, c.len.ensures.count)))
+returns-then-len-self-clause-open g c = grind (arith, common_steps, shut-short)
 
 pub returns-then-len-self-clause-none : goal.returns-then-len-self-clause-none
-returns-then-len-self-clause-none g c none =
-    reaching-short (g.T.Tally.value_of c.args.self.now.tally.now) c.args.self.now.best c.args.self.now.m c.args.self.now.k c.args.prefix.c c.args.prefix.set
-    (omega (arith, c.if-len-self.true, c.len.ensures.count))
+returns-then-len-self-clause-none g c none = grind (arith, common_steps, reaching-short)
 
 pub returns-then-bound-self-clause-open : goal.returns-then-bound-self-clause-open
-returns-then-bound-self-clause-open g c =
-    let p = c.args.prefix in
-    let w = c.args.self.now in
-    let bound = g.T.Tally.bound_of w.tally.now in
-    let left : w.k - c.len-2.result ≡ w.k - length p.set = ap (λ n. w.k - n) c.len-2.ensures.count in
-    sym (shut-low bound w.m w.k w.best p.c p.set (omega (arith, c.if-bound-self.true, c.bound.ensures.value, ap (bound p.c p.set) left)))
+returns-then-bound-self-clause-open g c = grind (arith, common_steps, shut-low)
 
 pub returns-then-bound-self-clause-none : goal.returns-then-bound-self-clause-none
 returns-then-bound-self-clause-none g c none =
@@ -34,10 +26,4 @@ returns-then-bound-self-clause-none g c none =
     reaching-bound value w.best w.m w.k p.c p.set c.bound.result law c.if-bound-self.true
 
 pub returns-clause-open : goal.returns-clause-open
-returns-clause-open g c =
-    let p = c.args.prefix in
-    let w = c.args.self.now in
-    let bound = g.T.Tally.bound_of w.tally.now in
-    let left : w.k - c.len-2.result ≡ w.k - length p.set = ap (λ n. w.k - n) c.len-2.ensures.count in
-    sym (open-is bound w.m w.k w.best p.c p.set c.requires.place.2 (omega (arith, c.if-len-self.false, c.len.ensures.count))
-    (omega (arith, c.if-bound-self.false, c.bound.ensures.value, ap (bound p.c p.set) left)))
+returns-clause-open g c = grind (arith, common_steps, open-is)
