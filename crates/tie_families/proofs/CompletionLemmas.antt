@@ -5,7 +5,6 @@ use Rattle.std.proofs.Common.{◌≡◌, ℕ, zero, suc, ◌+◌, ◌-◌, ◌�
 use Rattle.std.specs.Prelude.{fold, nat_le}
 use Rattle.std.specs.List.{list_any, range_with_len}
 use Rattle.std.proofs.lemmas.Bool.{cases_Bool, cases_lt, cases_eq, both_ways, le-leb, leb-true, not-true, and_parts, and_from}
-use Rattle.std.proofs.lemmas.List.Sums.{sum_by-append}
 use Rattle.std.proofs.Math.Bool.{and_comm}
 use Rattle.ballot_base.specs.Lists.{IsIncreasing, increasing_lists}
 use Rattle.ballot_base.specs.CandSet.{has_member, with_member}
@@ -19,12 +18,9 @@ use Rattle.tie_families.specs.Steps.Families.{may_be_in}
 use Rattle.tie_families.specs.Steps.Levels.{IsBelow}
 use Rattle.tie_families.specs.Steps.Tables.{completed, completed_by}
 use Rattle.tie_families.proofs.CloneLemmas.{clones-sameness}
-use Rattle.tie_families.proofs.Numbers.{bit, count-cons, count-class, count-parts, count-with, length-within, some-passes, some-more}
+use Rattle.tie_families.proofs.Numbers.{bit, count-append, count-cons, count-class, count-parts, count-with, length-within, some-passes, some-more}
 use Rattle.tie_families.proofs.TableLemmas.{completed-with, completed-same}
 use Rattle.tie_families.proofs.WinnerLemmas.{many-from, below-from, any-from, any-at}
-
-count-append : (p : ℕ → Bool) (xs ys : List ℕ) → count_by p (xs ++ ys) ≡ count_by p xs + count_by p ys
-count-append p xs ys = sum_by-append (λ x. cond (p x) 1 0) xs ys
 
 -- a set and candidates after it
 pub joined-increasing : (c m : ℕ) (first : ℕ) (set added : List ℕ) → first ≤ c + 1 → c ≤ m → IsIncreasing first c set → IsIncreasing (c + 1) m added → IsIncreasing first m (set ++ added)

@@ -10,32 +10,30 @@ use Rattle.ballot_base.specs.Ballots.{Row, Election}
 use Rattle.ballot_base.proofs.Committees.{increasing_lists-contains}
 use Rattle.ballot_base.proofs.Increasing.{has_member_head, has_member_tail}
 use Rattle.tie_walk.specs.Sequences.{hit_weights, others, is_sequential_winner, sequential_winners}
-use Rattle.tie_walk.specs.Steps.Choices.{change, worth, is_no_better, open_candidates, is_choice, start}
+use Rattle.tie_walk.specs.Steps.Choices.{step_of, choices_of, change, worth, is_no_better, open_candidates, is_choice, start}
 use Rattle.tie_walk.specs.Winners.{best_value, winners}
 use Rattle.tie_walk.specs.declared.sequential.SeqRule.{SeqRule}
 use Rattle.tie_walk.specs.declared.sequential.SeqRule.TheVariants.{SeqPav, SeqCc, RevSeqPav}
 use Rattle.tie_walk.specs.declared.sequential.Step.{Step}
 use Rattle.tie_walk.specs.declared.sequential.Step.TheVariants.{Grow, Shrink}
 use Rattle.tie_walk.proofs.HitWeights.{one-most}
-use Rattle.tie_walk.proofs.Choices.{reached_none, reached_more, made_from_reached}
+use Rattle.tie_walk.proofs.Choices.{reached_none, reached_more}
 use Rattle.tie_walk.proofs.LawLemmas.{no_greater_value}
-use Rattle.tie_walk.proofs.LevelLemmas.{followed-candidates, reached-increasing}
-use Rattle.tie_walk.proofs.SequenceLemmas.{IsSized, grown_set-made, left_set-made, reached-sized}
+use Rattle.tie_walk.proofs.LevelLemmas.{reached-increasing}
 use Rattle.tie_walk.proofs.WinnersLemmas.{greatest-most, same_filter, winners-best}
 use Rattle.tie_families.specs.Families.{Sequential, is_winner}
 use Rattle.tie_families.specs.Steps.Levels.{IsReachedBy}
-use Rattle.tie_families.proofs.Lists.{members-of, count-others, all-from}
-use Rattle.tie_families.proofs.Numbers.{length-sum}
+use Rattle.tie_families.proofs.Lists.{all-pass}
+use Rattle.tie_families.proofs.LevelLemmas.{reached-chosen}
+use Rattle.tie_families.proofs.Picked.{chosen-open}
+use Rattle.tie_families.proofs.TiedClones.{no_better-joined, choice-from}
+use Rattle.tie_families.proofs.WinnerLemmas.{rule-size, reached-wins}
 
 -- ---- one of those that nobody is better than
 
 no_better-total : (step : Step) (x y : ℕ) → (is_no_better step x y ≡ true) ⊎ (is_no_better step y x ≡ true)
 no_better-total Grow x y = elim (cases_lt x y) [ inl less ↦ inl (le-leb x y (omega (arith, less))) | inr more ↦ inr (le-leb y x more) ]
 no_better-total Shrink x y = elim (cases_lt x y) [ inl less ↦ inr (le-leb x y (omega (arith, less))) | inr more ↦ inl (le-leb y x more) ]
-
-no_better-joined : (step : Step) (x y z : ℕ) → is_no_better step x y ≡ true → is_no_better step y z ≡ true → is_no_better step x z ≡ true
-no_better-joined Grow x y z xy yz = le-leb x z (omega (arith, leb-true x y xy, leb-true y z yz))
-no_better-joined Shrink x y z xy yz = le-leb z x (omega (arith, leb-true y x xy, leb-true z y yz))
 
 no_better-itself : (step : Step) (x : ℕ) → is_no_better step x x ≡ true
 no_better-itself Grow x = le-leb x x (omega arith)
@@ -76,77 +74,41 @@ some-best step w x (y ∷ ys) =
 
 -- ---- somebody is free as long as choices are left
 
-some-free : (step : Step) (m size : ℕ) (set : List ℕ) → IsIncreasing 1 m set → IsSized step m size set → size < m → 1 ≤ length (open_candidates step m set)
-some-free Grow m size set up sized more =
-    omega (
-      arith,
-      count-others (λ (x : ℕ). true) m set up,
-      length-sum set,
-      length-sum (others m set),
-      length-sum (range_with_len 1 m),
-      length-range_with_len 1 m,
-    )
-some-free Shrink m size set up sized more = omega (arith, ap length (members-of m set up), sized, more)
-
 module _ (step : Step) (weights : List ℕ) (m : ℕ) (rows : List Row) where
   choice-of : (set all : List ℕ) → all ≡ open_candidates step m set → 1 ≤ length all → (c : ℕ) × (is_choice step weights m rows set c ≡ true)
   choice-of set [] is some = absurd (omega (arith, some))
   choice-of set (x ∷ xs) is some =
       let best = some-best step (worth step weights rows set) x xs in
-      (best.0, tied best.0 (ap (λ l. has_member l best.0) (sym is) ∙ best.1) (λ d inside. best.2 d (ap (λ l. has_member l d) is ∙ inside)))
-    where
-      tied : (c : ℕ) → has_member (open_candidates step m set) c ≡ true
-          → ((d : ℕ) → has_member (open_candidates step m set) d ≡ true → is_no_better step (worth step weights rows set d) (worth step weights rows set c) ≡ true)
-          → is_choice step weights m rows set c ≡ true
-      tied c free each = grind (arith, common_steps, and_from, all-from)
+      (best.0, choice-from step weights m rows set best.0 (ap (λ l. has_member l best.0) (sym is) ∙ best.1) (λ d inside. best.2 d (ap (λ l. has_member l d) is ∙ inside)))
 
   some-reached : (size : ℕ) → size ≤ m → (set : List ℕ) × IsReachedBy step weights m rows size set
   some-reached zero fits = (start step m, reached_none (is_choice step weights m rows) (change step) (start step m))
   some-reached (suc size) fits =
       let old = some-reached size (omega (arith, fits)) in
       let up = reached-increasing step weights m rows size old.0 old.1 in
-      let c = choice-of old.0 (open_candidates step m old.0) refl (some-free step m size old.0 up (reached-sized step weights m rows size old.0 old.1) (omega (arith, fits))) in
+      let c = choice-of old.0 (open_candidates step m old.0) refl (omega (arith, fits, chosen-open step m old.0 up, reached-chosen step weights m rows size old.0 old.1)) in
       let next : size + 1 ≡ suc size = omega arith in
       (change step old.0 c.0, subst (λ n. IsReachedBy step weights m rows n (change step old.0 c.0)) next (reached_more (is_choice step weights m rows) (change step) (start step m) size old.0 c.0 old.1 c.1))
 
 -- ---- some committee wins
 
 pub some-wins : (rule : SeqRule) (e : Election) (k : ℕ) → k ≤ e.m → (set : List ℕ) × (is_sequential_winner rule e k set ≡ true) × IsIncreasing 1 e.m set × (length set ≡ k)
-some-wins SeqPav e k fits =
-    let w = hit_weights SeqPav e.m in
-    let s = some-reached Grow w e.m e.rows k fits in (
-      s.0,
-      grown_set-made w e.m e.rows k s.0 ∙ made_from_reached (is_choice Grow w e.m e.rows) (change Grow) e.m (start Grow e.m) k s.0 s.1 (followed-candidates Grow w e.m e.rows (start Grow e.m) s.1.list s.1.made),
-      reached-increasing Grow w e.m e.rows k s.0 s.1,
-      reached-sized Grow w e.m e.rows k s.0 s.1,
-    )
-some-wins SeqCc e k fits =
-    let w = hit_weights SeqCc e.m in
-    let s = some-reached Grow w e.m e.rows k fits in (
-      s.0,
-      grown_set-made w e.m e.rows k s.0 ∙ made_from_reached (is_choice Grow w e.m e.rows) (change Grow) e.m (start Grow e.m) k s.0 s.1 (followed-candidates Grow w e.m e.rows (start Grow e.m) s.1.list s.1.made),
-      reached-increasing Grow w e.m e.rows k s.0 s.1,
-      reached-sized Grow w e.m e.rows k s.0 s.1,
-    )
-some-wins RevSeqPav e k fits =
-    let w = hit_weights RevSeqPav e.m in
-    let s = some-reached Shrink w e.m e.rows (e.m - k) (omega arith) in
-    let sized = reached-sized Shrink w e.m e.rows (e.m - k) s.0 s.1 in (
-      s.0,
-      left_set-made w e.m e.rows k s.0 ∙ made_from_reached (is_choice Shrink w e.m e.rows) (change Shrink) e.m (start Shrink e.m) (e.m - k) s.0 s.1 (followed-candidates Shrink w e.m e.rows (start Shrink e.m) s.1.list s.1.made),
-      reached-increasing Shrink w e.m e.rows (e.m - k) s.0 s.1,
-      omega (arith, sized, fits),
-    )
+some-wins rule e k fits =
+    let size = choices_of rule e.m k in
+    let s = some-reached (step_of rule) (hit_weights rule e.m) e.m e.rows size (most rule) in
+    let up = reached-increasing (step_of rule) (hit_weights rule e.m) e.m e.rows size s.0 s.1 in
+    (s.0, reached-wins rule e k s.0 s.1, up, (rule-size rule e.m k s.0 fits up).1 (reached-chosen (step_of rule) (hit_weights rule e.m) e.m e.rows size s.0 s.1))
+  where
+    most : (r : SeqRule) → choices_of r e.m k ≤ e.m
+    most SeqPav = fits
+    most SeqCc = fits
+    most RevSeqPav = omega arith
 
 -- ---- the winners of the values are those of the rule
 
 bit-is : (b : Bool) → (cond b 1 0 == 1) ≡ b
 bit-is true = refl
 bit-is false = refl
-
-all-pass : (P : List ℕ → Type 0) (xs : List (List ℕ)) → ((x : List ℕ) → P x) → AllByRecursion P xs
-all-pass P [] each = tt
-all-pass P (x ∷ xs) each = (each x, all-pass P xs each)
 
 pub winners-are : (s : Sequential) → s.k ≤ s.election.m → winners (λ w. cond (is_winner s w) 1 0) s.election.m s.k ≡ sequential_winners s.rule s.election s.k
 winners-are s fits =

@@ -1,7 +1,7 @@
 -- Members of lists, of filters and of sets.
 use Rattle.std.proofs.lemmas.Grind.{common_steps}
 use Rattle.std.proofs.Common.{◌≡◌, ℕ, zero, suc, ◌+◌, ◌-◌, ◌≤◌, ◌==◌, ◌&&◌, ◌||◌, ◌∙◌, Bool, true, false, not, List, [], ◌∷◌, refl, sym, ap, arith, inl, inr, filter, count_by, Contains}
-use Rattle.std.specs.List.{list_all, range_with_len}
+use Rattle.std.specs.List.{list_all, range_with_len, AllByRecursion}
 use Rattle.std.proofs.lemmas.Bool.{cases_Bool, cases_eq, and_parts, and_from, and_left, both_ways, not-true, eq-eqb, ne_eqb, or_right, or_left, not_from_true}
 use Rattle.ballot_base.specs.Lists.{IsIncreasing}
 pub use Rattle.ballot_base.proofs.Included.{all-at, all-from}
@@ -31,6 +31,10 @@ all-fails p xs x inside fails = elim (cases_Bool (list_all p xs)) [
   | inl all ↦ absurd (both_ways (p x) fails (all-at p xs x all inside))
   | inr some ↦ some
 ]
+
+pub all-pass : {X : Type 0} (P : X → Type 0) (xs : List X) → ((x : X) → P x) → AllByRecursion P xs
+all-pass P [] each = tt
+all-pass P (x ∷ xs) each = (each x, all-pass P xs each)
 
 -- a number more
 pub all-next : (p : ℕ → Bool) (c : ℕ) → 1 ≤ c → list_all p (range_with_len 1 (c - 1)) ≡ true → p c ≡ true → list_all p (range_with_len 1 (c + 1 - 1)) ≡ true

@@ -31,6 +31,9 @@ pub record IsSplit (p : ℕ → Bool) (xs : List ℕ) : Type 0 where
 pub count-cons : (p : ℕ → Bool) (x : ℕ) (xs : List ℕ) → count_by p (x ∷ xs) ≡ bit (p x) + count_by p xs
 count-cons p x xs = sum_by-cons (λ y. cond (p y) 1 0) x xs
 
+pub count-append : (p : ℕ → Bool) (xs ys : List ℕ) → count_by p (xs ++ ys) ≡ count_by p xs + count_by p ys
+count-append p xs ys = sum_by-append (λ x. cond (p x) 1 0) xs ys
+
 pub split : (p : ℕ → Bool) (xs : List ℕ) → 1 ≤ count_by p xs → IsSplit p xs
 split p [] some = absurd (omega arith)
 split p (x ∷ xs) some = elim (cases_Bool (p x)) [

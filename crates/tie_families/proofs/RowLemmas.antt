@@ -1,22 +1,26 @@
 -- What a candidate brings where each of its voters has more hits, compared over the rows.
 use Rattle.std.proofs.lemmas.Grind.{common_steps}
-use Rattle.std.proofs.Common.{◌≡◌, ℕ, ◌+◌, ◌-◌, ◌*◌, ◌<◌, ◌≤◌, true, List, [], ◌∷◌, ap, arith, inl, inr}
+use Rattle.std.proofs.Common.{◌≡◌, ℕ, ◌+◌, ◌-◌, ◌*◌, ◌<◌, ◌≤◌, ◌∙◌, ◌++◌, true, false, cond, List, [], ◌∷◌, sym, ap, arith, inl, inr, count_by}
 use Rattle.std.proofs.Math.Nat.{mul-le-mul}
 use Rattle.std.specs.List.{AllByRecursion, list_all}
 use Rattle.std.specs.Prelude.{nat_le}
-use Rattle.std.proofs.lemmas.Bool.{cases_Bool, cases_lt, and_parts, leb-true}
+use Rattle.std.proofs.lemmas.Bool.{cases_Bool, cases_lt, and_parts, le-leb, leb-true, lt-leb}
 use Rattle.std.proofs.lemmas.List.Sums.{sum_by-cons}
 use Rattle.ballot_base.specs.Lists.{IsIncreasing}
 use Rattle.ballot_base.specs.CandSet.{has_member}
 use Rattle.ballot_base.specs.Ballots.{Row, hits}
-use Rattle.tie_walk.specs.Sequences.{weight}
-use Rattle.tie_walk.specs.Steps.Choices.{worth, hits_of}
+use Rattle.tie_walk.specs.Sequences.{weight, gain, loss}
+use Rattle.tie_walk.specs.Steps.Choices.{worth, hits_of, is_no_better, open_candidates}
 use Rattle.tie_walk.specs.declared.sequential.Step.{Step}
+use Rattle.tie_walk.specs.declared.sequential.Step.TheVariants.{Grow, Shrink}
 use Rattle.tie_walk.proofs.RowSums.{AreBallots}
 use Rattle.tie_walk.proofs.WorthLemmas.{share, partial, worth-whole}
 use Rattle.ballot_base.specs.Clones.{are_clones}
-use Rattle.tie_families.specs.Steps.Levels.{IsFalling, IsStrict}
-use Rattle.tie_families.proofs.CloneLemmas.{IsWhole, all_whole}
+use Rattle.tie_families.specs.Clones.{clone_count}
+use Rattle.tie_families.specs.Steps.Levels.{picked, IsFalling, IsStrict}
+use Rattle.tie_families.proofs.CloneLemmas.{IsWhole, all_whole, clones-sameness, hits-members}
+use Rattle.tie_families.proofs.Lists.{count-others, open-is}
+use Rattle.tie_families.proofs.Numbers.{bit, count-append, member-counts, sums-within}
 
 -- what follows row by row
 facts-from : (all : List Row) (m : ℕ) (P Q : Row → Type 0) → ((row : Row) → IsIncreasing 1 m row.0 → IsWhole (are_clones all) row → P row → Q row) → (rows : List Row) → AreBallots m rows
@@ -27,10 +31,6 @@ facts-from all m P Q each (row ∷ rows) ballots whole given = (each row ballots
 pub each-row : (m : ℕ) (rows : List Row) (P Q : Row → Type 0) → AreBallots m rows → AllByRecursion P rows
     → ((row : Row) → IsIncreasing 1 m row.0 → IsWhole (are_clones rows) row → P row → Q row) → AllByRecursion Q rows
 each-row m rows P Q ballots given each = facts-from rows m P Q each rows ballots (all_whole rows) given
-
-pub nothing-given : (rows : List Row) → AllByRecursion (λ (row : Row). 0 ≤ 0) rows
-nothing-given [] = tt
-nothing-given (row ∷ rows) = (omega arith, nothing-given rows)
 
 pub few-of : (candidates : List ℕ) (rows : List Row) → list_all (λ (row : Row). nat_le (hits row.0 candidates) 1) rows ≡ true → AllByRecursion (λ (row : Row). hits row.0 candidates ≤ 1) rows
 few-of candidates [] all = tt
@@ -114,3 +114,82 @@ module _ (step : Step) (weights set other : List ℕ) (c d : ℕ) where
 
   pub worth-less : IsFalling weights → IsStrict weights → (rows : List Row) → AllByRecursion (IsLaterBy 1) rows → 0 < worth step weights rows set c → worth step weights rows other d < worth step weights rows set c
   worth-less falls strict rows later positive = grind (arith, common_steps, worth-whole, partials-less)
+
+-- ---- at a set where more are picked
+
+module _ (m : ℕ) (rows : List Row) (weights set other : List ℕ) (c d : ℕ) where
+  -- d is a clone of c, and may be chosen at the other set, where with `less` as many of each class are picked as here with
+  -- `more`; and who approves d approves so many more of `more` than of `less`
+  pub record IsFurther (step : Step) (n : ℕ) (more less : List ℕ) : Type 0 where
+    pub up : IsIncreasing 1 m set
+    pub up' : IsIncreasing 1 m other
+    pub clones : are_clones rows c d ≡ true
+    pub free : has_member (open_candidates step m other) d ≡ true
+    pub within : (e : ℕ) → clone_count rows (picked step m set) e + clone_count rows more e ≤ clone_count rows (picked step m other) e + clone_count rows less e
+    pub given : AllByRecursion (λ (row : Row). has_member row.0 d ≡ true → n + count_by (has_member row.0) less ≤ count_by (has_member row.0) more) rows
+
+  abbrev IsLaterAt : Step → ℕ → Row → Type 0
+  IsLaterAt Grow n row = IsLaterBy Grow weights set other c d n row
+  IsLaterAt Shrink n row = IsLaterBy Shrink weights other set d c n row
+
+  row-picked : (step : Step) (n : ℕ) (more less : List ℕ) (row : Row) → IsFurther step n more less → IsWhole (are_clones rows) row → n + count_by (has_member row.0) less ≤ count_by (has_member row.0) more
+      → count_by (has_member row.0) (picked step m set) + n ≤ count_by (has_member row.0) (picked step m other)
+  row-picked step n more less row h whole few =
+      let p = has_member row.0 in
+      omega (
+        arith,
+        count-append p (picked step m set) more,
+        count-append p (picked step m other) less,
+        sums-within (are_clones rows) (clones-sameness rows) (λ y. cond (has_member row.0 y) 1 0) (λ x y xy. ap bit (whole x y xy)) (picked step m set ++ more) (picked step m other ++ less)
+            (λ e. omega (arith, h.within e, count-append (are_clones rows e) (picked step m set) more, count-append (are_clones rows e) (picked step m other) less)),
+      )
+
+  row-later : (step : Step) (n : ℕ) (more less : List ℕ) → IsFurther step n more less → (row : Row) → IsIncreasing 1 m row.0 → IsWhole (are_clones rows) row
+      → (has_member row.0 d ≡ true → n + count_by (has_member row.0) less ≤ count_by (has_member row.0) more) → IsLaterAt step n row
+  row-later Grow n more less h row ballot whole few = (
+    whole c d h.clones,
+    λ approved. (
+      omega arith,
+      omega (
+        arith,
+        row-picked Grow n more less row h whole (few (sym (whole c d h.clones) ∙ approved)),
+        hits-members m row.0 set ballot h.up,
+        hits-members m row.0 other ballot h.up',
+      ),
+    ),
+  )
+  row-later Shrink n more less h row ballot whole few = (
+    sym (whole c d h.clones),
+    λ approved. (
+      omega (arith, hits-members m row.0 other ballot h.up', member-counts (has_member row.0) other d (open-is Shrink m other d h.free).1 approved),
+      omega (
+        arith,
+        row-picked Shrink n more less row h whole (few approved),
+        hits-members m row.0 set ballot h.up,
+        hits-members m row.0 other ballot h.up',
+        count-others (has_member row.0) m set h.up,
+        count-others (has_member row.0) m other h.up',
+      ),
+    ),
+  )
+
+  rows-later : (step : Step) (n : ℕ) (more less : List ℕ) → AreBallots m rows → IsFurther step n more less → AllByRecursion (IsLaterAt step n) rows
+  rows-later step n more less ballots h =
+      each-row m rows (λ row. has_member row.0 d ≡ true → n + count_by (has_member row.0) less ≤ count_by (has_member row.0) more) (IsLaterAt step n) ballots h.given (row-later step n more less h)
+
+  -- the clone is no better there, and worse if n is 1
+  pub no-better : (step : Step) (more less : List ℕ) → AreBallots m rows → IsFalling weights → IsFurther step 0 more less
+      → is_no_better step (worth step weights rows other d) (worth step weights rows set c) ≡ true
+  no-better Grow more less ballots falls h =
+      le-leb (gain weights rows other d) (gain weights rows set c) (worth-later Grow weights set other c d falls rows (rows-later Grow 0 more less ballots h))
+  no-better Shrink more less ballots falls h =
+      le-leb (loss weights rows set c) (loss weights rows other d) (worth-later Shrink weights other set d c falls rows (rows-later Shrink 0 more less ballots h))
+
+  pub worse : (step : Step) (more less : List ℕ) → AreBallots m rows → IsFalling weights → IsStrict weights → IsFurther step 1 more less → 0 < worth step weights rows set c
+      → is_no_better step (worth step weights rows set c) (worth step weights rows other d) ≡ false
+  worse Grow more less ballots falls strict h some =
+      lt-leb (gain weights rows set c) (gain weights rows other d) (worth-less Grow weights set other c d falls strict rows (rows-later Grow 1 more less ballots h) some)
+  worse Shrink more less ballots falls strict h some =
+      let later = rows-later Shrink 1 more less ballots h in
+      let no_less = worth-later Shrink weights other set d c falls rows (all-later Shrink weights other set d c rows later) in
+      lt-leb (loss weights rows other d) (loss weights rows set c) (worth-less Shrink weights other set d c falls strict rows later (omega (arith, some, no_less)))

@@ -10,33 +10,25 @@ use Rattle.ballot_base.specs.Ballots.{Election}
 use Rattle.ballot_base.proofs.Committees.{increasing_lists-contains, chosen-from_contains}
 use Rattle.tie_walk.specs.Ceilings.{IsBound, IsExactAtBest}
 use Rattle.tie_walk.specs.Sequences.{hit_weights, is_sequential_winner}
-use Rattle.tie_walk.specs.Steps.Choices.{change, is_choice, start}
+use Rattle.tie_walk.specs.Steps.Choices.{step_of, choices_of}
 use Rattle.tie_walk.specs.declared.sequential.SeqRule.{SeqRule}
-use Rattle.tie_walk.specs.declared.sequential.SeqRule.TheVariants.{SeqPav, SeqCc, RevSeqPav}
-use Rattle.tie_walk.specs.declared.sequential.Step.TheVariants.{Grow, Shrink}
 use Rattle.tie_walk.proofs.HitWeights.{one-most}
-use Rattle.tie_walk.proofs.Choices.{reached_from_made}
-use Rattle.tie_walk.proofs.SequenceLemmas.{grown_set-made, left_set-made, reached-sized}
+use Rattle.tie_walk.proofs.LevelLemmas.{reached-increasing}
 use Rattle.tie_families.specs.Clones.{is_between}
 use Rattle.tie_families.specs.Families.{Sequential, sequential_of, is_winner, some_winner}
 use Rattle.tie_families.specs.Steps.Families.{KeepsFamilies, may_be_in}
 use Rattle.tie_families.specs.Steps.Levels.{AreFamilies}
 use Rattle.tie_families.proofs.CompletionLemmas.{joined-increasing, may-is}
+use Rattle.tie_families.proofs.LevelLemmas.{reached-chosen}
 use Rattle.tie_families.proofs.PairLemmas.{pairs-first}
-use Rattle.tie_families.proofs.WinnerLemmas.{any-from, any-at}
+use Rattle.tie_families.proofs.WinnerLemmas.{any-from, any-at, rule-size, winner-reached}
 
 -- a winner has k members
 pub winner-size : (rule : SeqRule) (e : Election) (k : ℕ) (set : List ℕ) → k ≤ e.m → is_sequential_winner rule e k set ≡ true → length set ≡ k
-winner-size SeqPav e k set fits wins =
-    let w = hit_weights SeqPav e.m in
-    reached-sized Grow w e.m e.rows k set (reached_from_made (is_choice Grow w e.m e.rows) (change Grow) e.m (start Grow e.m) k set (sym (grown_set-made w e.m e.rows k set) ∙ wins))
-winner-size SeqCc e k set fits wins =
-    let w = hit_weights SeqCc e.m in
-    reached-sized Grow w e.m e.rows k set (reached_from_made (is_choice Grow w e.m e.rows) (change Grow) e.m (start Grow e.m) k set (sym (grown_set-made w e.m e.rows k set) ∙ wins))
-winner-size RevSeqPav e k set fits wins =
-    let w = hit_weights RevSeqPav e.m in
-    let sized = reached-sized Shrink w e.m e.rows (e.m - k) set (reached_from_made (is_choice Shrink w e.m e.rows) (change Shrink) e.m (start Shrink e.m) (e.m - k) set (sym (left_set-made w e.m e.rows k set) ∙ wins)) in
-    omega (arith, sized, fits)
+winner-size rule e k set fits wins =
+    let r = winner-reached rule e k set wins in
+    (rule-size rule e.m k set fits (reached-increasing (step_of rule) (hit_weights rule e.m) e.m e.rows (choices_of rule e.m k) set r)).1
+    (reached-chosen (step_of rule) (hit_weights rule e.m) e.m e.rows (choices_of rule e.m k) set r)
 
 module _ (e : Election) (rule : SeqRule) (k : ℕ) (fits : k ≤ e.m) where
   pub some-other : (c : ℕ) (set : List ℕ) (left : ℕ) → (length set + left ≡ k → ⊥) → some_winner (sequential_of e rule k) c set left ≡ false

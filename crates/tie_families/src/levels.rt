@@ -15,6 +15,7 @@
 //! sequence of choices makes.
 ghost use Rattle.std.specs.Prelude.{◌≡◌, ℕ, ◌++◌, ◌^◌, ◌<◌, ◌≤◌, false, None, IfOk, OnOk, fold, map, length, slice_index};
 ghost use Rattle.std.specs.List.{AllByRecursion};
+ghost use Rattle.ballot_base.specs.Limits.{most_candidates};
 ghost use Rattle.ballot_base.specs.Lists.{IsIncreasing};
 ghost use Rattle.tie_walk.specs.Sequences.{hit_weights};
 ghost use Rattle.tie_walk.specs.Steps.Choices.{HasSetsOf, change, worth};
@@ -74,12 +75,12 @@ fn after_all(step: Step, set: CandSet, choices: CandSet) -> CandSet
 
 /// The number of choices that lead to a set.
 fn chosen(step: Step, m: u8, set: CandSet) -> u8
-    requires { length set ≤ m }
+    requires { m ≤ most_candidates }
     ensures { result ≡ chosen step m set }
 {
     match step {
         Step::Grow => set.len(),
-        Step::Shrink => m - set.len(),
+        Step::Shrink => CandSet::all(m).minus(set).len(),
     }
 }
 

@@ -1,5 +1,6 @@
 use Rattle.std.proofs.Common.{◌≡◌, ◌∙◌, ap, sym, subst, arith, get_or, take, map}
 use Rattle.tie_walk.specs.Sequences.{hit_weights}
+use Rattle.tie_walk.specs.Steps.Choices.{choices_of}
 use Rattle.tie_walk.proofs.HitWeights.{hit_weights-small}
 use Rattle.tie_families.specs.Steps.Levels.{other_end, IsFalling, IsStrict, AreFamilies}
 use Rattle.tie_families.proofs.WinnerLemmas.{hit_weights-fall}
@@ -22,15 +23,15 @@ pub returns-clause-families : goal.returns-clause-families
 returns-clause-families g c =
     let e = c.args.profile.now in
     let rule = c.args.rule in
-    let table = c.hit_weights-weights.result in
-    let weights = take c.from.result table in
+    let m = c.m-m.result in
+    let weights = take c.from.result c.hit_weights-weights.result in
     let step = c.step-step.result in
     let sets = c.in_ok-sets.sets.items in
     let ends = c.in_ok-ends.ends.items in
+    let are : weights ≡ hit_weights rule e.m = ap (λ n. take n c.hit_weights-weights.result) c.from.ensures ∙ c.hit_weights-weights.ensures ∙ ap (hit_weights rule) c.m-m.ensures.value in
     let ends-are : ends ≡ map (other_end step weights e.m e.rows c.args.k) sets = c.in_ok-ends.ensures ∙ ap (map (other_end step weights e.m e.rows c.args.k)) c.deref.ensures.value in
     let all : AreFamilies rule e c.args.k (leasts_of step sets ends) (mosts_of step sets ends) =
-    last-families rule e c.args.k c.m-m.result c.choices.result step (take c.m-m.result table) weights sets ends
-    c.requires c.m-m.ensures.valid.ballots c.m-m.ensures.value c.step-step.ensures c.choices.ensures c.hit_weights-weights.ensures (ap (λ n. take n table) c.from.ensures) c.in_ok-sets.ensures ends-are in
+    last-families rule e c.args.k c.choices.result step weights sets ends c.requires c.m-m.ensures.valid.ballots c.step-step.ensures (c.choices.ensures ∙ ap (λ n. choices_of rule n c.args.k) c.m-m.ensures.value) are c.in_ok-sets.ensures ends-are in
     elim c.match-step.branch [
       | in-Grow w ↦ rw w.leasts-is (subst (λ s. AreFamilies rule e c.args.k (leasts_of s sets ends) (mosts_of s sets ends)) w.in-Grow.is all)
       | in-Shrink w ↦ rw w.leasts-is (subst (λ s. AreFamilies rule e c.args.k (leasts_of s sets ends) (mosts_of s sets ends)) w.in-Shrink.is all)

@@ -4,16 +4,9 @@ use Rattle.std.proofs.lemmas.Bool.{le-leb}
 use Rattle.tie_walk.specs.Steps.Choices.{change, HasSetsOf}
 use Rattle.tie_walk.proofs.FoundLemmas.{found-inserted}
 use Rattle.tie_families.specs.Steps.Levels.{end, chosen, family_changes}
-use Rattle.tie_families.proofs.SpanLemmas.{end-fits}
 use Rattle.tie_families.proofs.StepLemmas.{changes-none, changes-last, over-fails}
 use Rattle.tie_families.proofs.levels.Levels.insert_changes.Goals as goal
 use Rattle.tie_families.proofs.levels.Levels.insert_changes.Goals.{then-is_over, else-is_over}
-
-pub chosen-requires : goal.chosen-requires
-chosen-requires g c =
-    let e = c.args.self.now.profile.now in
-    let is : end c.args.self.now.step c.args.self.now.weights.now e.m e.rows c.args.set ≡ Some c.in-Some.last = sym c.ties_and_end-tied.ensures.end ∙ c.in-Some.is in
-    omega (arith, end-fits c.args.self.now.step c.args.self.now.weights.now e.m e.rows c.args.set c.in-Some.last c.requires.set is, c.m.ensures.value)
 
 pub returns-in-Some : goal.returns-in-Some
 returns-in-Some g c =
