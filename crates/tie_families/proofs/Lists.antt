@@ -36,14 +36,8 @@ pub all-pass : {X : Type 0} (P : X → Type 0) (xs : List X) → ((x : X) → P 
 all-pass P [] each = tt
 all-pass P (x ∷ xs) each = (each x, all-pass P xs each)
 
--- a number more
-pub all-next : (p : ℕ → Bool) (c : ℕ) → 1 ≤ c → list_all p (range_with_len 1 (c - 1)) ≡ true → p c ≡ true → list_all p (range_with_len 1 (c + 1 - 1)) ≡ true
-all-next p c low all here = all-from p (range_with_len 1 (c + 1 - 1)) (λ x inside.
-    let bounds = in_bounds c (range_with_len 1 (c + 1 - 1)) x (IsIncreasing-range 1 (c + 1 - 1) c (omega (arith, low))) inside in
-    elim (cases_eq x c) [
-      | inl same ↦ ap p same ∙ here
-      | inr other ↦ all-at p (range_with_len 1 (c - 1)) x all (has_member-range 1 (c - 1) x bounds.0 (omega (arith, bounds.1, other)))
-    ])
+pub all-range : (p : ℕ → Bool) (m : ℕ) → ((c : ℕ) → 1 ≤ c → c ≤ m → p c ≡ true) → list_all p (range_with_len 1 m) ≡ true
+all-range p m each = all-from p (range_with_len 1 m) (λ c inside. let bounds = in_bounds m (range_with_len 1 m) c (IsIncreasing-range 1 m m (omega arith)) inside in each c bounds.0 bounds.1)
 
 -- ---- where a list of lists has a set from
 

@@ -14,9 +14,6 @@ loop-done-init g c =
     c.in_ok-push.ensures.items ∙ ap (λ l. l ++ c.start.result ∷ []) c.new-level.ensures.items ∙ ap (λ s. s ∷ []) made in
     level-first c.args.self.now.step c.args.self.now.weights.now e.m e.rows c.m.ensures.valid.ballots c.args.self.now.falling c.args.self.now.strict c.push.new.self.items first
 
-pub next_level-requires-clause-size : goal.next_level-requires-clause-size
-next_level-requires-clause-size g c = omega (arith, c.requires)
-
 pub next_level-requires-clause-sets : goal.next_level-requires-clause-sets
 next_level-requires-clause-sets g c =
     let e = c.args.self.now.profile.now in

@@ -5,26 +5,6 @@ use Rattle.tie_families.proofs.StepLemmas.{settled-is, best-found, none-unsettle
 use Rattle.tie_families.proofs.levels.Levels.ties_and_end.Goals as goal
 use Rattle.tie_families.proofs.levels.Levels.ties_and_end.Goals.{then-is_settled, else-is_settled}
 
-pub ties-tied-requires-clause-best : goal.ties-tied-requires-clause-best
-ties-tied-requires-clause-best g c =
-    let s = c.args.self.now in
-    let e = s.profile.now in
-    let totals = c.worths-totals.result in
-    best-found s.step s.weights.now e.m c.m.result e.rows c.args.set (λ d. get_or totals d 0) c.best_worth-best.result c.m.ensures.value c.worths-totals.ensures c.best_worth-best.ensures
-
-pub end-requires-clause-best : goal.end-requires-clause-best
-end-requires-clause-best g c =
-    let s = c.args.self.now in
-    let e = s.profile.now in
-    let totals = c.worths-totals.result in
-    best-found s.step s.weights.now e.m c.m.result e.rows c.args.set (λ d. get_or totals d 0) c.best_worth-best.result c.m.ensures.value c.worths-totals.ensures c.best_worth-best.ensures
-
-pub end-requires-clause-tied : goal.end-requires-clause-tied
-end-requires-clause-tied g c unsettled = elim c.if-is_settled.branch [
-  | then-is_settled w ↦ absurd (both_ways (has_settled c.args.self.now.step c.best_worth-best.result) unsettled (sym c.is_settled.ensures ∙ w.if-is_settled.true))
-  | else-is_settled w ↦ w.tied-is ∙ w.ties-tied.ensures
-]
-
 pub returns-clause-ties : goal.returns-clause-ties
 returns-clause-ties g c none =
     let s = c.args.self.now in
