@@ -84,27 +84,14 @@ passes-more p c old new low is before more =
 
 -- ---- the end, as the code finds it
 
-some-more-than : (n most : ℕ) → n < most → nat_lt n most ≡ true
-some-more-than n most more = grind arith
-
-pub none-more : (n most : ℕ) → most ≤ n → nat_lt n most ≡ false
-none-more n most few = grind arith
-
-pub end-settled : (step : Step) (weights : List ℕ) (m n : ℕ) (rows : List Row) (set : List ℕ) → n ≡ m → is_settled step weights m rows set ≡ true → Some (range_with_len 1 n) ≡ end step weights m rows set
+pub end-found : (step : Step) (weights : List ℕ) (m n : ℕ) (rows : List Row) (set : List ℕ) (w : ℕ → ℕ) (best : ℕ) → n ≡ m → ((c : ℕ) → w c ≡ worth step weights rows set c)
+    → best ≡ fold (better step) (worst step) (map w (open_candidates step n set))
+    → end step weights m rows set ≡ cond (has_settled step best) (Some (range_with_len 1 m))
+    (cond (nat_lt 0 best && (nat_le 2 (length (ties step weights m rows set)) && shares_no_voter rows (ties step weights m rows set))) (Some (fold (change step) set (ties step weights m rows set))) None)
 unfolding end
-end-settled step weights m n rows set same settled = ap (λ k. Some (range_with_len 1 k)) same ∙ sym (ap (λ b. cond b (Some (range_with_len 1 m)) (cond (is_independent step weights m rows set) (Some (fold (change step) set (ties step weights m rows set))) None)) settled)
-
-module _ (step : Step) (weights : List ℕ) (m : ℕ) (rows : List Row) (set tied : List ℕ) (unsettled : is_settled step weights m rows set ≡ false) (are : tied ≡ ties step weights m rows set) where
-  pub end-independent : 0 < tied_worth step weights m rows set → 2 ≤ length tied → shares_no_voter rows tied ≡ true → Some (fold (change step) set tied) ≡ end step weights m rows set
-  unfolding end
-  end-independent may some apart = grind (arith, common_steps, and_from, some-more-than, le-leb, Some, None)
-
-  pub end-none : (nat_lt 0 (tied_worth step weights m rows set) && (nat_le 2 (length tied) && shares_no_voter rows tied)) ≡ false → None ≡ end step weights m rows set
-  unfolding end
-  end-none not = grind (arith, common_steps, Some, None)
-
-pub over-fails : (n most : ℕ) → most < n → nat_le n most ≡ false
-over-fails n most more = grind arith
+end-found step weights m n rows set w best same are found =
+    let is = best-found step weights m n rows set w best same are found in
+    rw (settled-is step weights m rows set best is, is) refl
 
 pub row-at : (rows : List Row) (i : ℕ) (row : Row) → slice_get rows i ≡ Some row → (i < length rows) × (get_or rows i row ≡ row)
 row-at [] i row found = absurd (let f : false ≡ true = ap is_some found in cc)
@@ -114,11 +101,6 @@ row-at (r ∷ rows) zero row found = (omega arith, ap (λ o. of_some o row) foun
     of_some None d = d
     of_some (Some x) d = x
 row-at (r ∷ rows) (suc i) row found = grind (arith, common_steps, row-at rows i row found)
-
--- where there is no end, somebody brings something
-pub none-unsettled : (step : Step) (weights : List ℕ) (m : ℕ) (rows : List Row) (set : List ℕ) → end step weights m rows set ≡ None → is_settled step weights m rows set ≡ false
-unfolding end
-none-unsettled step weights m rows set none = grind (arith, common_steps, cases_Bool, is_some, Some, None)
 
 -- ---- a set that is gone through
 

@@ -5,8 +5,8 @@ use Rattle.tie_walk.proofs.HitWeights.{hit_weights-small}
 use Rattle.tie_families.specs.Steps.Levels.{other_end, IsFalling, IsStrict, AreFamilies}
 use Rattle.tie_families.proofs.WinnerLemmas.{hit_weights-fall}
 use Rattle.tie_families.proofs.FamilyLemmas.{hit_weights-strict, last-families, leasts_of, mosts_of}
-use Rattle.tie_families.proofs.levels.families_of.Goals as goal
-use Rattle.tie_families.proofs.levels.families_of.Goals.{in-Grow, in-Shrink}
+use Rattle.tie_families.proofs.families.Families.new.Goals as goal
+use Rattle.tie_families.proofs.families.Families.new.Goals.{in-Grow, in-Shrink}
 
 pub invariant_of-levels : goal.invariant_of-levels
 invariant_of-levels g c =
@@ -19,8 +19,8 @@ invariant_of-levels g c =
       strict = subst IsStrict (sym are) (hit_weights-strict c.args.rule m);
     }
 
-pub returns-clause-families : goal.returns-clause-families
-returns-clause-families g c =
+pub invariant_of-result-2 : goal.invariant_of-result-2
+invariant_of-result-2 g c =
     let e = c.args.profile.now in
     let rule = c.args.rule in
     let m = c.m-m.result in
@@ -31,8 +31,15 @@ returns-clause-families g c =
     let are : weights ≡ hit_weights rule e.m = ap (λ n. take n c.hit_weights-weights.result) c.from.ensures ∙ c.hit_weights-weights.ensures ∙ ap (hit_weights rule) c.m-m.ensures.value in
     let ends-are : ends ≡ map (other_end step weights e.m e.rows c.args.k) sets = c.in_ok-ends.ensures ∙ ap (map (other_end step weights e.m e.rows c.args.k)) c.deref.ensures.value in
     let all : AreFamilies rule e c.args.k (leasts_of step sets ends) (mosts_of step sets ends) =
-    last-families rule e c.args.k c.choices.result step weights sets ends c.requires c.m-m.ensures.valid.ballots c.step-step.ensures (c.choices.ensures ∙ ap (λ n. choices_of rule n c.args.k) c.m-m.ensures.value) are c.in_ok-sets.ensures ends-are in
-    elim c.match-step.branch [
-      | in-Grow w ↦ rw w.leasts-is (subst (λ s. AreFamilies rule e c.args.k (leasts_of s sets ends) (mosts_of s sets ends)) w.in-Grow.is all)
-      | in-Shrink w ↦ rw w.leasts-is (subst (λ s. AreFamilies rule e c.args.k (leasts_of s sets ends) (mosts_of s sets ends)) w.in-Shrink.is all)
-    ]
+    last-families rule e c.args.k c.choices.result step weights sets ends c.requires.fits c.m-m.ensures.valid.ballots c.step-step.ensures (c.choices.ensures ∙ ap (λ n. choices_of rule n c.args.k) c.m-m.ensures.value) are c.in_ok-sets.ensures ends-are in
+    record {
+      m_is = c.m-m.ensures.value;
+      some = c.requires.some;
+      most = omega (arith, c.m-m.ensures.value, c.m-m.ensures.valid.most);
+      fits = omega (arith, c.m-m.ensures.value, c.requires.fits);
+      clones_are = c.of-clones.ensures;
+      families = elim c.match-step.branch [
+        | in-Grow w ↦ rw w.leasts-is (subst (λ s. AreFamilies rule e c.args.k (leasts_of s sets ends) (mosts_of s sets ends)) w.in-Grow.is all)
+        | in-Shrink w ↦ rw w.leasts-is (subst (λ s. AreFamilies rule e c.args.k (leasts_of s sets ends) (mosts_of s sets ends)) w.in-Shrink.is all)
+      ];
+    }
