@@ -18,6 +18,7 @@ use Rattle.tie_families.specs.Steps.Families.{may_be_in}
 use Rattle.tie_families.specs.Steps.Levels.{IsBelow}
 use Rattle.tie_families.specs.Steps.Tables.{completed, completed_by}
 use Rattle.tie_families.proofs.CloneLemmas.{clones-sameness}
+use Rattle.tie_families.proofs.Lists.{same_tests}
 use Rattle.tie_families.proofs.Numbers.{bit, count-append, count-cons, count-class, count-parts, count-with, length-within, some-passes, some-more}
 use Rattle.tie_families.proofs.TableLemmas.{completed-with, completed-same}
 use Rattle.tie_families.proofs.WinnerLemmas.{many-from, below-from, any-from, any-at}
@@ -233,15 +234,11 @@ module _ (m : ℕ) (rows : List Row) (c : ℕ) (set : List ℕ) (left : ℕ) (fa
   may-is =
       let test : List ℕ → Bool = λ (added : List ℕ). is_between m rows family.0 family.1 (set ++ added) in
       let lists = increasing_lists (c + 1) m left in
-      elim (cases_Bool (may_be_in m rows c set left family)) [
-        | inl may ↦
-            let some = may-to may in
-            may ∙ sym (any-from test lists some.0 (increasing_lists-contains (c + 1) m left some.0 (some.1, some.2)) some.3)
-        | inr never ↦ elim (cases_Bool (list_any test lists)) [
-          | inl any ↦
-              let some = any-at test lists any in
-              let chosen = chosen-from_contains (c + 1) m left some.0 some.1 in
-              absurd (both_ways (may_be_in m rows c set left family) never (may-from some.0 chosen.0 chosen.1 some.2))
-          | inr none ↦ never ∙ sym none
-        ]
-      ]
+      same_tests (may_be_in m rows c set left family) (list_any test lists)
+      (λ may.
+      let some = may-to may in
+      any-from test lists some.0 (increasing_lists-contains (c + 1) m left some.0 (some.1, some.2)) some.3)
+      (λ any.
+      let some = any-at test lists any in
+      let chosen = chosen-from_contains (c + 1) m left some.0 some.1 in
+      may-from some.0 chosen.0 chosen.1 some.2)

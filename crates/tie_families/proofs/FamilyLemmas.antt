@@ -25,7 +25,7 @@ use Rattle.tie_walk.proofs.HitWeights.{hit_weights-length, hit_weights-at}
 use Rattle.tie_walk.proofs.RowSums.{AreBallots}
 use Rattle.tie_families.specs.Clones.{has_as_many, is_between}
 use Rattle.tie_families.specs.Steps.Levels.{end, end_or, chosen, other_end, IsBelow, IsAhead, IsStrict, IsOf, IsPlaced, IsFamilyLevel, AreFamilies}
-use Rattle.tie_families.proofs.Lists.{count-others}
+use Rattle.tie_families.proofs.Lists.{same_tests, count-others}
 use Rattle.tie_families.proofs.LevelLemmas.{ahead-turned, level-candidates}
 use Rattle.tie_families.proofs.Numbers.{bit}
 use Rattle.tie_families.proofs.SpanLemmas.{IsSpan, end-span}
@@ -170,21 +170,16 @@ module _ (rule : SeqRule) (e : Election) (k : ℕ) (fits : k ≤ e.m) (ballots :
     families-win committee up many =
         let spanned : List ℕ → Bool = λ (set : List ℕ). is_spanned step e.m e.rows committee set (other set) in
         let sized = (rule-size rule e.m k committee fits up).0 many in
-        elim (cases_Bool (is_sequential_winner rule e k committee)) [
-          | inl wins ↦
-              let s = level.reached committee (winner-reached rule e k committee wins) in
-              let last = other-is s.0 s.1 in
-              wins ∙ sym (any-from spanned sets s.0 s.1 (spanned-from e.m e.rows committee s.0 (other s.0) up (level.candidates s.0 s.1) last.increasing step s.2.ahead (last.until committee sized s.2)))
-          | inr loses ↦ elim (cases_Bool (list_any spanned sets)) [
-            | inl some ↦
-                let s = any-at spanned sets some in
-                let last = other-is s.0 s.1 in
-                let parts = spanned-at e.m e.rows committee s.0 (other s.0) up (level.candidates s.0 s.1) last.increasing step s.2 in
-                absurd (both_ways (is_sequential_winner rule e k committee) loses
-                (reached-wins rule e k committee (level.made committee s.0 up sized s.1 (last.has committee parts.0 parts.1))))
-            | inr none ↦ loses ∙ sym none
-          ]
-        ]
+        same_tests (is_sequential_winner rule e k committee) (list_any spanned sets)
+        (λ wins.
+        let s = level.reached committee (winner-reached rule e k committee wins) in
+        let last = other-is s.0 s.1 in
+        any-from spanned sets s.0 s.1 (spanned-from e.m e.rows committee s.0 (other s.0) up (level.candidates s.0 s.1) last.increasing step s.2.ahead (last.until committee sized s.2)))
+        (λ some.
+        let s = any-at spanned sets some in
+        let last = other-is s.0 s.1 in
+        let parts = spanned-at e.m e.rows committee s.0 (other s.0) up (level.candidates s.0 s.1) last.increasing step s.2 in
+        reached-wins rule e k committee (level.made committee s.0 up sized s.1 (last.has committee parts.0 parts.1)))
 
 -- ---- the families of the last level
 

@@ -17,6 +17,11 @@ use Rattle.tie_families.proofs.Numbers.{count-parts}
 
 -- ---- what is true of all
 
+pub same_tests : (a b : Bool) → (a ≡ true → b ≡ true) → (b ≡ true → a ≡ true) → a ≡ b
+same_tests true b to from = sym (to refl)
+same_tests false true to from = from refl
+same_tests false false to from = refl
+
 pub some-fails : (p : ℕ → Bool) (xs : List ℕ) → list_all p xs ≡ false → (x : ℕ) × (has_member xs x ≡ true) × (p x ≡ false)
 some-fails p [] fails = absurd (let e : true ≡ false = fails in cc)
 some-fails p (y ∷ xs) fails = elim (cases_Bool (p y)) [

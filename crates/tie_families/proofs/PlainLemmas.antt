@@ -27,6 +27,7 @@ use Rattle.tie_families.specs.Steps.Families.{AreApart}
 use Rattle.tie_families.specs.Steps.Levels.{IsBelow, AreFamilies}
 use Rattle.ballot_base.specs.Clones.{AreClones}
 use Rattle.tie_families.proofs.CloneLemmas.{clones-sameness}
+use Rattle.tie_families.proofs.Lists.{same_tests}
 use Rattle.tie_families.proofs.Numbers.{some-passes, member-counts, within-turned}
 use Rattle.tie_families.proofs.PairLemmas.{pairs-first, pairs-pass}
 use Rattle.tie_families.proofs.WinnerLemmas.{many-from, below-from, any-at}
@@ -60,13 +61,7 @@ module _ (m : ℕ) (rows : List Row) (table : List (List ℕ)) (clones : AreClon
   same-set : (set other : List ℕ) → IsIncreasing 1 m set → IsIncreasing 1 m other → IsBelow rows set other → length set ≡ length other → set ≡ other
   same-set set other up up' below size =
       let above = within-turned (are_clones rows) (clones-sameness rows) set other below (omega (arith, size)) in
-      same_increasing 1 m set other up up' (λ n. elim (cases_Bool (has_member set n)) [
-        | inl here ↦ here ∙ sym (member-of set other up up' below n here)
-        | inr none ↦ elim (cases_Bool (has_member other n)) [
-          | inl there ↦ absurd (both_ways (has_member set n) none (member-of other set up' up above n there))
-          | inr neither ↦ none ∙ sym neither
-        ]
-      ])
+      same_increasing 1 m set other up up' (λ n. same_tests (has_member set n) (has_member other n) (member-of set other up up' below n) (member-of other set up' up above n))
 
 pub plain-winners : (rule : SeqRule) (e : Election) (k m : ℕ) (table leasts mosts list : List (List ℕ)) → m ≡ e.m → list ≡ leasts → AreFamilies rule e k leasts mosts → AreClones e.m e.rows table
     → AreApart m table → list_all (λ set. length set == k) leasts ≡ true → list ≡ sequential_winners rule e k

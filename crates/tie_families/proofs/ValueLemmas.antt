@@ -2,7 +2,7 @@
 use Rattle.std.proofs.Common.{◌≡◌, ℕ, ◌+◌, ◌-◌, ◌≤◌, ◌<◌, ◌∙◌, Bool, true, false, cond, List, ◌++◌, append-nil, refl, sym, ap, subst, arith, inl, inr, length, length-append, Contains, get_or, []}
 use mir.Val.{bool_byte}
 use Rattle.std.specs.List.{list_any, zip, AllByRecursion}
-use Rattle.std.proofs.lemmas.Bool.{cases_Bool, both_ways}
+use Rattle.std.proofs.lemmas.Bool.{cases_Bool, false_from_ne_true}
 use Rattle.std.proofs.lemmas.List.Elements.{All-contains, All-from_recursion}
 use Rattle.std.proofs.Math.Bool.{or-false}
 use Rattle.ballot_base.specs.Lists.{IsIncreasing, increasing_lists, lists_of}
@@ -20,6 +20,7 @@ use Rattle.tie_families.specs.Steps.Families.{KeepsFamilies, may_be_in}
 use Rattle.tie_families.specs.Steps.Levels.{AreFamilies}
 use Rattle.tie_families.proofs.CompletionLemmas.{joined-increasing, may-is}
 use Rattle.tie_families.proofs.LevelLemmas.{reached-chosen}
+use Rattle.tie_families.proofs.Lists.{same_tests}
 use Rattle.tie_families.proofs.PairLemmas.{pairs-first}
 use Rattle.tie_families.proofs.WinnerLemmas.{any-from, any-at, rule-size, winner-reached}
 
@@ -32,13 +33,10 @@ winner-size rule e k set fits wins =
 
 module _ (e : Election) (rule : SeqRule) (k : ℕ) (fits : k ≤ e.m) where
   pub some-other : (c : ℕ) (set : List ℕ) (left : ℕ) → (length set + left ≡ k → ⊥) → some_winner (sequential_of e rule k) c set left ≡ false
-  some-other c set left other = elim (cases_Bool (some_winner (sequential_of e rule k) c set left)) [
-    | inl some ↦
-        let a = any-at (λ added. is_winner (sequential_of e rule k) (set ++ added)) (increasing_lists (c + 1) e.m left) some in
-        let chosen = chosen-from_contains (c + 1) e.m left a.0 a.1 in
-        absurd (other (omega (arith, length-append set a.0, chosen.1, winner-size rule e k (set ++ a.0) fits a.2)))
-    | inr none ↦ none
-  ]
+  some-other c set left other =
+      false_from_ne_true (some_winner (sequential_of e rule k) c set left) (λ some.
+      let a = any-at (λ added. is_winner (sequential_of e rule k) (set ++ added)) (increasing_lists (c + 1) e.m left) some in
+      other (omega (arith, length-append set a.0, chosen-from_contains (c + 1) e.m left a.0 a.1, winner-size rule e k (set ++ a.0) fits a.2)))
 
   module _ (leasts mosts : List (List ℕ)) (families : AreFamilies rule e k leasts mosts) where
     inside : (family : List ℕ × List ℕ) → Contains (zip leasts mosts) family → IsIncreasing 1 e.m family.0
@@ -52,24 +50,18 @@ module _ (e : Election) (rule : SeqRule) (k : ℕ) (fits : k ≤ e.m) where
         let lists = increasing_lists (c + 1) e.m left in
         let pairs = zip leasts mosts in
         let has = λ (committee : List ℕ) (family : List ℕ × List ℕ). is_between e.m e.rows family.0 family.1 committee in
-        let joined = λ (added : List ℕ) (up' : IsIncreasing (c + 1) e.m added). joined-increasing c e.m 1 set added (omega arith) within up up' in
-        elim (cases_Bool (list_any (may_be_in e.m e.rows c set left) pairs)) [
-          | inl may ↦
-              let f = any-at (may_be_in e.m e.rows c set left) pairs may in
-              let a = any-at (λ added. has (set ++ added) f.0) lists (sym (may-is e.m e.rows c set left f.0 within up (inside f.0 f.1)) ∙ f.2) in
-              let chosen = chosen-from_contains (c + 1) e.m left a.0 a.1 in
-              let wins = families.reached (set ++ a.0) (joined a.0 chosen.0) (omega (arith, length-append set a.0, chosen.1, whole)) ∙ any-from (has (set ++ a.0)) pairs f.0 f.1 a.2 in
-              may ∙ sym (any-from (λ added. is_winner (sequential_of e rule k) (set ++ added)) lists a.0 a.1 wins)
-          | inr never ↦ elim (cases_Bool (some_winner (sequential_of e rule k) c set left)) [
-            | inl some ↦
-                let a = any-at (λ added. is_winner (sequential_of e rule k) (set ++ added)) lists some in
-                let chosen = chosen-from_contains (c + 1) e.m left a.0 a.1 in
-                let f = any-at (has (set ++ a.0)) pairs (sym (families.reached (set ++ a.0) (joined a.0 chosen.0) (omega (arith, length-append set a.0, chosen.1, whole))) ∙ a.2) in
-                let may = may-is e.m e.rows c set left f.0 within up (inside f.0 f.1) ∙ any-from (λ added. has (set ++ added) f.0) lists a.0 a.1 f.2 in
-                absurd (both_ways (list_any (may_be_in e.m e.rows c set left) pairs) never (any-from (may_be_in e.m e.rows c set left) pairs f.0 f.1 may))
-            | inr none ↦ never ∙ sym none
-          ]
-        ]
+        let wins-by = λ (added : List ℕ) (here : Contains lists added).
+        let chosen = chosen-from_contains (c + 1) e.m left added here in
+        families.reached (set ++ added) (joined-increasing c e.m 1 set added (omega arith) within up chosen.0) (omega (arith, length-append set added, chosen.1, whole)) in
+        same_tests (list_any (may_be_in e.m e.rows c set left) pairs) (some_winner (sequential_of e rule k) c set left)
+        (λ may.
+        let f = any-at (may_be_in e.m e.rows c set left) pairs may in
+        let a = any-at (λ added. has (set ++ added) f.0) lists (sym (may-is e.m e.rows c set left f.0 within up (inside f.0 f.1)) ∙ f.2) in
+        any-from (λ added. is_winner (sequential_of e rule k) (set ++ added)) lists a.0 a.1 (wins-by a.0 a.1 ∙ any-from (has (set ++ a.0)) pairs f.0 f.1 a.2))
+        (λ some.
+        let a = any-at (λ added. is_winner (sequential_of e rule k) (set ++ added)) lists some in
+        let f = any-at (has (set ++ a.0)) pairs (sym (wins-by a.0 a.1) ∙ a.2) in
+        any-from (may_be_in e.m e.rows c set left) pairs f.0 f.1 (may-is e.m e.rows c set left f.0 within up (inside f.0 f.1) ∙ any-from (λ added. has (set ++ added) f.0) lists a.0 a.1 f.2))
 
 -- the same, of what the families keep, where contracts see the election, the rule and k as one
 module _ {e : Election} {rule : SeqRule} {m k : ℕ} {clones leasts mosts : List (List ℕ)} (keeps : KeepsFamilies e rule m k clones leasts mosts) (s : Sequential) (is : sequential_of e rule k ≡ s) where

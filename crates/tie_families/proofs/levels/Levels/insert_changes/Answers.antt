@@ -20,10 +20,7 @@ returns-in-Some g c =
     let keys = c.args.next.now.keys in
     let is : end step weights e.m e.rows set ≡ Some last = sym c.ties_and_end-tied.ensures.end ∙ c.in-Some.is in
     let many : c.chosen.result ≡ chosen step e.m last = c.chosen.ensures ∙ ap (λ n. chosen step n last) c.m.ensures.value in
-    let next : c.if-is_over.insert ≡ cond (nat_le (chosen step e.m last) (size + 1)) last set = elim c.if-is_over.branch [
-      | then-is_over w ↦ grind (arith, common_steps, nat_tests)
-      | else-is_over w ↦ grind (arith, common_steps, nat_tests)
-    ] in
+    let next : c.if-is_over.insert ≡ cond (nat_le (chosen step e.m last) (size + 1)) last set = grind (arith, common_steps, nat_tests) in
     subst (λ l. HasSetsOf (keys ++ l) c.insert.new.self.keys) (changes-last step weights e.m e.rows size set last c.if-is_over.insert is next) (found-inserted keys c.insert.new.self.keys c.if-is_over.insert c.in_ok-insert.ensures.updates.0)
 
 pub returns : goal.returns

@@ -25,11 +25,7 @@ loop-c-preserved g c =
           let is : test k ≡ true = grind (arith, common_steps, nat_tests) in
           passes-more test k c.loop-c.ties c.if-may_choose.ties c.loop-c.auto.c is c.loop-c.invariant (w.ties-is ∙ w.with-ties.ensures)
       | else-may_choose w ↦
-          let is : test k ≡ false = elim w.else-may_choose.branch [
-            | else-may_choose-via-then-may_choose+then-of-best+else-is_first_open u ↦ grind (arith, common_steps, nat_tests)
-            | else-may_choose-via-then-may_choose+else-of-best u ↦ grind (arith, common_steps, nat_tests)
-            | else-may_choose-via-else-may_choose u ↦ grind (arith, common_steps, nat_tests)
-          ] in
+          let is : test k ≡ false = grind (arith, common_steps, nat_tests) in
           w.ties-is ∙ c.loop-c.invariant ∙ sym (filter-left test k c.loop-c.auto.c is)
     ]
 
