@@ -2,7 +2,7 @@
 use Rattle.std.proofs.lemmas.Grind.{common_steps}
 use Rattle.std.proofs.Common.{◌≡◌, ℕ, zero, suc, ◌+◌, ◌-◌, ◌<◌, ◌≤◌, ◌==◌, ◌∙◌, Bool, true, false, cond, List, [], ◌∷◌, refl, sym, ap, subst, arith, inl, inr, ◌⊎◌, length}
 use Rattle.std.specs.List.{range_with_len, AllByRecursion}
-use Rattle.std.proofs.lemmas.Bool.{cases_lt, cases_eq, le-leb, leb-true, and_from}
+use Rattle.std.proofs.lemmas.Bool.{cases_lt, cases_eq, le-leb, or_right}
 use Rattle.std.proofs.lemmas.List.FromFn.{length-range_with_len}
 use Rattle.ballot_base.specs.Lists.{IsIncreasing, increasing_lists}
 use Rattle.ballot_base.specs.CandSet.{has_member}
@@ -39,38 +39,25 @@ no_better-itself : (step : Step) (x : ℕ) → is_no_better step x x ≡ true
 no_better-itself Grow x = le-leb x x (omega arith)
 no_better-itself Shrink x = le-leb x x (omega arith)
 
+at-each : (P : ℕ → Type 0) (x : ℕ) (xs : List ℕ) → P x → ((d : ℕ) → has_member xs d ≡ true → P d) → (d : ℕ) → has_member (x ∷ xs) d ≡ true → P d
+at-each P x xs here rest d inside = elim (cases_eq x d) [
+  | inl same ↦ subst P same here
+  | inr other ↦ rest d (sym (has_member_tail x d xs other) ∙ inside)
+]
+
 some-best : (step : Step) (w : ℕ → ℕ) (x : ℕ) (xs : List ℕ) → (c : ℕ) × (has_member (x ∷ xs) c ≡ true) × ((d : ℕ) → has_member (x ∷ xs) d ≡ true → is_no_better step (w d) (w c) ≡ true)
-some-best step w x [] = (
-  x,
-  has_member_head x [],
-  λ d inside. elim (cases_eq x d) [
-    | inl same ↦ subst (λ k. is_no_better step (w k) (w x) ≡ true) same (no_better-itself step (w x))
-    | inr other ↦ absurd (let e : false ≡ true = sym (has_member_tail x d [] other) ∙ inside in cc)
-  ],
-)
+some-best step w x [] =
+    (x, has_member_head x [], at-each (λ d. is_no_better step (w d) (w x) ≡ true) x [] (no_better-itself step (w x)) (λ d inside. absurd (let e : false ≡ true = inside in cc)))
 some-best step w x (y ∷ ys) =
     let rest = some-best step w y ys in
     elim (no_better-total step (w x) (w rest.0)) [
-      | inl fine ↦ (
-        rest.0,
-        later rest.0 rest.1,
-        λ d inside. elim (cases_eq x d) [
-          | inl same ↦ subst (λ k. is_no_better step (w k) (w rest.0) ≡ true) same fine
-          | inr other ↦ rest.2 d (sym (has_member_tail x d (y ∷ ys) other) ∙ inside)
-        ],
-      )
+      | inl fine ↦ (rest.0, or_right (x == rest.0) (has_member (y ∷ ys) rest.0) rest.1, at-each (λ d. is_no_better step (w d) (w rest.0) ≡ true) x (y ∷ ys) fine rest.2)
       | inr more ↦ (
         x,
         has_member_head x (y ∷ ys),
-        λ d inside. elim (cases_eq x d) [
-          | inl same ↦ subst (λ k. is_no_better step (w k) (w x) ≡ true) same (no_better-itself step (w x))
-          | inr other ↦ no_better-joined step (w d) (w rest.0) (w x) (rest.2 d (sym (has_member_tail x d (y ∷ ys) other) ∙ inside)) more
-        ],
+        at-each (λ d. is_no_better step (w d) (w x) ≡ true) x (y ∷ ys) (no_better-itself step (w x)) (λ d inside. no_better-joined step (w d) (w rest.0) (w x) (rest.2 d inside) more),
       )
     ]
-  where
-    later : (c : ℕ) → has_member (y ∷ ys) c ≡ true → has_member (x ∷ y ∷ ys) c ≡ true
-    later c inside = grind (arith, common_steps, cases_eq, has_member_head, has_member_tail)
 
 -- ---- somebody is free as long as choices are left
 

@@ -14,6 +14,7 @@ use Rattle.tie_walk.proofs.LawLemmas.{IsIncreasing-range}
 use Rattle.tie_walk.proofs.LevelLemmas.{in_bounds}
 use Rattle.tie_walk.proofs.StepLemmas.{has_member-range}
 use Rattle.tie_families.proofs.Numbers.{count-parts}
+pub use Rattle.tie_families.proofs.Numbers.{some-fails}
 
 -- ---- what is true of all
 
@@ -21,15 +22,6 @@ pub same_tests : (a b : Bool) → (a ≡ true → b ≡ true) → (b ≡ true �
 same_tests true b to from = sym (to refl)
 same_tests false true to from = from refl
 same_tests false false to from = refl
-
-pub some-fails : (p : ℕ → Bool) (xs : List ℕ) → list_all p xs ≡ false → (x : ℕ) × (has_member xs x ≡ true) × (p x ≡ false)
-some-fails p [] fails = absurd (let e : true ≡ false = fails in cc)
-some-fails p (y ∷ xs) fails = elim (cases_Bool (p y)) [
-  | inr here ↦ (y, has_member_head y xs, here)
-  | inl passes ↦
-      let rest = some-fails p xs (ap (λ b. b && list_all p xs) (sym passes) ∙ fails) in
-      (rest.0, or_right (y == rest.0) (has_member xs rest.0) rest.1, rest.2)
-]
 
 pub all-fails : (p : ℕ → Bool) (xs : List ℕ) (x : ℕ) → has_member xs x ≡ true → p x ≡ false → list_all p xs ≡ false
 all-fails p xs x inside fails = elim (cases_Bool (list_all p xs)) [

@@ -17,13 +17,13 @@ use Rattle.tie_walk.specs.declared.sequential.Step.TheVariants.{Grow, Shrink}
 use Rattle.tie_walk.proofs.LawLemmas.{IsIncreasing-range}
 use Rattle.tie_walk.proofs.LevelLemmas.{choice-parts}
 use Rattle.tie_walk.proofs.RowSums.{AreBallots}
-use Rattle.tie_walk.proofs.StepLemmas.{has_member-range, lowest, values-lowest}
+use Rattle.tie_walk.proofs.StepLemmas.{has_member-range, lowest, bounds-lowest}
 use Rattle.tie_walk.proofs.WinnersLemmas.{greatest, bounds-greatest}
 use Rattle.tie_families.specs.Clones.{clone_count}
 use Rattle.tie_families.specs.Steps.Levels.{tied_worth, end_or, is_first_open, is_settled, ties, shares_no_voter, is_independent, end, picked, chosen, IsAhead, IsFalling, IsStrict}
 use Rattle.tie_families.proofs.CloneLemmas.{clones-itself, clones-turned, clones-joined, clones-sameness, hits-members}
 use Rattle.tie_families.proofs.Lists.{all-at, all-pass, count-others}
-use Rattle.tie_families.proofs.Numbers.{bit, at_member, some-passes, some-more, member-counts, count-cons, count-class, count-without, length-sum}
+use Rattle.tie_families.proofs.Numbers.{bit, some-passes, some-more, member-counts, count-cons, count-class, count-without, length-sum}
 use Rattle.tie_families.proofs.Picked.{count-open, chosen-open, change-increasing, count-change, open-stays}
 use Rattle.tie_families.proofs.RowLemmas.{each-row, few-of, worse, no-better}
 use Rattle.tie_families.proofs.TiedClones.{no_better-joined, no-better-ahead, open-moves, choice-from, choice-best, choice-open, first-tied}
@@ -195,7 +195,9 @@ module _ (step : Step) (weights : List ℕ) (m : ℕ) (rows : List Row) (ballots
       by Shrink more parts =
           let w : ℕ → ℕ = loss weights rows set in
           let free : List ℕ = open_candidates Shrink m set in
-          omega (arith, more, at_member (are_clones rows) (clones-sameness rows) (λ d. lowest w (2 ^ 128 - 1) free ≤ w d) free t (values-lowest w (2 ^ 128 - 1) free) parts.0)
+          let low : ℕ = lowest w (2 ^ 128 - 1) free in
+          let each = and_parts (nat_le low (2 ^ 128 - 1)) (list_all (λ d. nat_le low (w d)) free) (bounds-lowest w (2 ^ 128 - 1) low free ∙ le-leb low low (omega arith)) in
+          omega (arith, more, leb-true low (w t) (all-at (λ d. nat_le low (w d)) free t each.1 parts.0))
 
   independent-span : IsStrict weights → 0 < tied_worth step weights m rows set → shares_no_voter rows all ≡ true → IsSpan step weights m rows set last
   independent-span strict some apart =
