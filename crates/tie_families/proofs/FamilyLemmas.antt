@@ -24,7 +24,7 @@ use Rattle.tie_walk.specs.declared.sequential.Step.TheVariants.{Grow, Shrink}
 use Rattle.tie_walk.proofs.HitWeights.{hit_weights-length, hit_weights-at}
 use Rattle.tie_walk.proofs.RowSums.{AreBallots}
 use Rattle.tie_families.specs.Clones.{has_as_many, is_between}
-use Rattle.tie_families.specs.Steps.Levels.{end, end_or, chosen, other_end, IsBelow, IsAhead, IsStrict, IsOf, IsPlaced, IsFamilyLevel, AreFamilies}
+use Rattle.tie_families.specs.Steps.Levels.{end, end_or, chosen, other_end, IsBelow, IsAhead, IsOf, IsPlaced, IsFamilyLevel, AreFamilies}
 use Rattle.tie_families.proofs.Lists.{same_tests, count-others}
 use Rattle.tie_families.proofs.LevelLemmas.{ahead-turned, level-candidates}
 use Rattle.tie_families.proofs.Numbers.{bit}
@@ -92,23 +92,6 @@ module _ (m : ℕ) (rows : List Row) (committee set other : List ℕ) (up : IsIn
       let parts = and_parts (has_as_many m rows committee other) (has_as_many m rows set committee) is in
       (below-turned_ahead m rows set committee up' up (below-from m rows committee set up parts.1), below-turned_ahead m rows committee other up up'' (below-from m rows other committee up'' parts.0))
 
--- ---- after a hit that brings something, the next one brings less
-
-exact-falls : (n a b j : ℕ) → 1 ≤ j → n ≡ j * a → n ≡ (j + 1) * b → 0 < a → b < a
-exact-falls n a b j low at next some = grind (arith, common_steps, cases_lt, mul-le-mul)
-
-shares-fall : (m j : ℕ) → 1 ≤ j → j + 1 ≤ m → 0 < common_multiple m / j → common_multiple m / (j + 1) < common_multiple m / j
-shares-fall m j low high some = grind (arith, common_steps, mul-div_cancel', common_multiple_divides, exact-falls)
-
-hit-strict : (rule : SeqRule) (m j : ℕ) → 1 ≤ j → j + 1 ≤ m → 0 < hit_weight rule m j → hit_weight rule m (j + 1) < hit_weight rule m j
-hit-strict SeqPav m j low high some = shares-fall m j low high some
-hit-strict SeqCc m j low high some = grind (arith, common_steps, bit, ne_eqb)
-hit-strict RevSeqPav m j low high some = shares-fall m j low high some
-
-pub hit_weights-strict : (rule : SeqRule) (m : ℕ) → IsStrict (hit_weights rule m)
-hit_weights-strict rule m j some =
-    grind (arith, common_steps, get_or, add-one, cases_lt, hit_weights-at, hit-strict, get_or_past, hit_weights-length)
-
 -- ---- the families of a level, and their other ends
 
 module _ (rule : SeqRule) (e : Election) (k : ℕ) (fits : k ≤ e.m) (ballots : AreBallots e.m e.rows) (sets : List (List ℕ))
@@ -151,7 +134,7 @@ module _ (rule : SeqRule) (e : Election) (k : ℕ) (fits : k ≤ e.m) (ballots :
         up = level.candidates set inside
 
         span : (last : List ℕ) → end step (hit_weights rule e.m) e.m e.rows set ≡ Some last → IsSpan step (hit_weights rule e.m) e.m e.rows set last
-        span last is = (end-span step (hit_weights rule e.m) e.m e.rows ballots (hit_weights-fall rule e.m) (hit_weights-strict rule e.m) set last up is).0
+        span last is = (end-span step (hit_weights rule e.m) e.m e.rows ballots (hit_weights-fall rule e.m) set last up is).0
 
         by : (length set == k) ≡ false → (o : Option (List ℕ)) → end step (hit_weights rule e.m) e.m e.rows set ≡ o → IsPlaced step (hit_weights rule e.m) e.m e.rows size set → IsOther set (other set)
         by differs o is (inl sized) = absurd (both_ways (length set == k) differs (eq-eqb (length set) k ((rule-size rule e.m k set fits up).1 sized)))

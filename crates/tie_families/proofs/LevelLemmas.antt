@@ -22,7 +22,7 @@ use Rattle.tie_walk.proofs.LevelLemmas.{choice-parts, reached-increasing}
 use Rattle.tie_walk.proofs.RowSums.{AreBallots}
 use Rattle.tie_walk.proofs.SequenceLemmas.{IsSized, reached-sized}
 use Rattle.tie_families.specs.Clones.{clone_count}
-use Rattle.tie_families.specs.Steps.Levels.{is_first_open, ties, end, end_or, picked, chosen, followed, family_changes, IsNextFamilies, IsAhead, IsFalling, IsStrict, IsReachedBy, IsPlaced, IsOf, IsFamilyLevel}
+use Rattle.tie_families.specs.Steps.Levels.{is_first_open, ties, end, end_or, picked, chosen, followed, family_changes, IsNextFamilies, IsAhead, IsFalling, IsReachedBy, IsPlaced, IsOf, IsFamilyLevel}
 use Rattle.tie_families.proofs.CloneLemmas.{clones-turned, clones-joined, clones-sameness}
 use Rattle.tie_families.proofs.Lists.{Contains-only, members-of}
 use Rattle.tie_families.proofs.Numbers.{bit, some-more, count-class, within-turned}
@@ -105,19 +105,19 @@ first-made Grow m [] none up = refl
 first-made Grow m (x ∷ xs) none up = absurd (omega (arith, none))
 first-made Shrink m made none up = sym (none-fail (has_member made) (range_with_len 1 m) none) ∙ members-of m made up
 
-module _ (step : Step) (weights : List ℕ) (m : ℕ) (rows : List Row) (ballots : AreBallots m rows) (falls : IsFalling weights) (strict : IsStrict weights) where
+module _ (step : Step) (weights : List ℕ) (m : ℕ) (rows : List Row) (ballots : AreBallots m rows) (falls : IsFalling weights) where
   -- a set as far as a family, by numbers of each class, is of it
   of-same : (size : ℕ) (set made : List ℕ) → IsIncreasing 1 m set → chosen step m set ≡ size → chosen step m made ≡ size → IsAhead step m rows set made → IsOf step weights m rows set made
   of-same size set made up sized sized' ahead = record {
     ahead = ahead;
-    until = λ last e x. omega (arith, ahead-turned step m rows set made (omega (arith, sized, sized')) ahead x, (end-span step weights m rows ballots falls strict set last up e).0.ahead x);
+    until = λ last e x. omega (arith, ahead-turned step m rows set made (omega (arith, sized, sized')) ahead x, (end-span step weights m rows ballots falls set last up e).0.ahead x);
   }
 
   -- a family that lasts has more sets to come
   still-lasts : (size : ℕ) (set last : List ℕ) → size < m → IsIncreasing 1 m set → IsPlaced step weights m rows size set → end step weights m rows set ≡ Some last
       → (chosen step m set ≤ size) × (size < chosen step m last)
   still-lasts size set last fits up (inl sized) e =
-      (omega (arith, sized), omega (arith, sized, (end-span step weights m rows ballots falls strict set last up e).1 (omega (arith, sized, fits))))
+      (omega (arith, sized), omega (arith, sized, (end-span step weights m rows ballots falls set last up e).1 (omega (arith, sized, fits))))
   still-lasts size set last fits up (inr lasting) e = grind (arith, common_steps)
 
   still-sized : (size : ℕ) (set : List ℕ) → IsPlaced step weights m rows size set → end step weights m rows set ≡ None → chosen step m set ≡ size
@@ -163,7 +163,7 @@ module _ (step : Step) (weights : List ℕ) (m : ℕ) (rows : List Row) (ballots
       where
         by : (old : List ℕ) → IsIncreasing 1 m old → IsMade step weights m rows size old set → IsIncreasing 1 m set
         by old up (stays last e more same) = subst (IsIncreasing 1 m) same up
-        by old up (ends last e over same) = subst (IsIncreasing 1 m) same (end-span step weights m rows ballots falls strict old last up e).0.increasing
+        by old up (ends last e over same) = subst (IsIncreasing 1 m) same (end-span step weights m rows ballots falls old last up e).0.increasing
         by old up (changed c none choice is) = subst (IsIncreasing 1 m) is (change-increasing step m old c up (choice-open step weights m rows old c choice))
 
     next-placed : (set : List ℕ) → Contains next set → IsPlaced step weights m rows (size + 1) set
@@ -191,7 +191,7 @@ module _ (step : Step) (weights : List ℕ) (m : ℕ) (rows : List Row) (ballots
             let up' = reached-increasing step weights m rows size old reached in
             let sized' = reached-chosen step weights m rows size old reached in
             let free = choice-open step weights m rows old c allowed in
-            let span = (end-span step weights m rows ballots falls strict set last up e).0 in
+            let span = (end-span step weights m rows ballots falls set last up e).0 in
             let lasts = still-lasts size set last fits up (level.placed set inside) e in
             let until : IsAhead step m rows made last = subst (λ s. IsAhead step m rows s last) is (span.stays old c up' of.ahead (of.until last e) (omega (arith, sized', lasts.1)) allowed) in
             let sized : chosen step m made ≡ size + 1 = omega (arith, ap (chosen step m) is, chosen-change step m old c up' free, sized') in
@@ -256,7 +256,7 @@ module _ (step : Step) (weights : List ℕ) (m : ℕ) (rows : List Row) (ballots
               )
           | inr other ↦ omega (arith, ahead x, less x, ap bit other)
         ] in
-        let choice = (end-span step weights m rows ballots falls strict set last up' e).0.may u.old t.0 u.increasing under u.free (subst (λ s. IsAhead step m rows s last) (sym u.is) until) in
+        let choice = (end-span step weights m rows ballots falls set last up' e).0.may u.old t.0 u.increasing under u.free (subst (λ s. IsAhead step m rows s last) (sym u.is) until) in
         reached-by u.old t.0 made
         (level.made u.old set u.increasing (omega (arith, chosen-undone step m made t.0 u, sized)) inside
         (record { ahead = under; until = λ last' e'. subst (IsAhead step m rows u.old) (ap (end_or []) (sym e ∙ e')) (λ x. omega (arith, until x, less x)) })) choice u.is
@@ -272,7 +272,7 @@ module _ (step : Step) (weights : List ℕ) (m : ℕ) (rows : List Row) (ballots
             span-reached old last made from e up sized here.ahead (here.until last e)
         by old from up' placed (ends last e over same) =
             let here : IsAhead step m rows last made = subst (λ s. IsAhead step m rows s made) (sym same) of.ahead in
-            let span = (end-span step weights m rows ballots falls strict old last up' e).0 in
+            let span = (end-span step weights m rows ballots falls old last up' e).0 in
             let lasts = still-lasts size old last fits up' placed e in
             span-reached old last made from e up sized (λ x. omega (arith, span.ahead x, here x)) (ahead-turned step m rows last made (omega (arith, sized, lasts.1)) here)
         by old from up' placed (changed c none choice is) =

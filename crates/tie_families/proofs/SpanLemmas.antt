@@ -20,7 +20,7 @@ use Rattle.tie_walk.proofs.RowSums.{AreBallots}
 use Rattle.tie_walk.proofs.StepLemmas.{has_member-range, lowest, bounds-lowest}
 use Rattle.tie_walk.proofs.WinnersLemmas.{greatest, bounds-greatest}
 use Rattle.tie_families.specs.Clones.{clone_count}
-use Rattle.tie_families.specs.Steps.Levels.{tied_worth, end_or, is_first_open, is_settled, ties, shares_no_voter, is_independent, end, picked, chosen, IsAhead, IsFalling, IsStrict}
+use Rattle.tie_families.specs.Steps.Levels.{tied_worth, end_or, is_first_open, is_settled, ties, shares_no_voter, is_independent, end, picked, chosen, IsAhead, IsFalling}
 use Rattle.tie_families.proofs.CloneLemmas.{clones-itself, clones-turned, clones-joined, clones-sameness, hits-members}
 use Rattle.tie_families.proofs.Lists.{all-at, all-pass, count-others}
 use Rattle.tie_families.proofs.Numbers.{bit, some-passes, some-more, member-counts, count-cons, count-class, count-without, length-sum}
@@ -137,9 +137,9 @@ module _ (step : Step) (weights : List ℕ) (m : ℕ) (rows : List Row) (ballots
         )
 
     -- of a class of which no more are picked at the end, a candidate is worse
-    tied-less : IsStrict weights → ((t : ℕ) → is_choice step weights m rows set t ≡ true → 0 < worth step weights rows set t) → clone_count rows (picked step m last) c ≤ clone_count rows (picked step m made) c
+    tied-less : ((t : ℕ) → is_choice step weights m rows set t ≡ true → 0 < worth step weights rows set t) → clone_count rows (picked step m last) c ≤ clone_count rows (picked step m made) c
         → (t : ℕ) → is_choice step weights m rows set t ≡ true → is_no_better step (worth step weights rows set t) (worth step weights rows made c) ≡ true → ⊥
-    tied-less strict positive full t is fine = elim (cases_lt 0 (clone_count rows all c)) [
+    tied-less positive full t is fine = elim (cases_lt 0 (clone_count rows all c)) [
       | inl some ↦
           let u = some-passes (are_clones rows c) all (omega (arith, some)) in
           let within : (x : ℕ) → clone_count rows (picked step m set) x + clone_count rows (c ∷ []) x ≤ clone_count rows (picked step m made) x + 0 = λ x.
@@ -158,7 +158,7 @@ module _ (step : Step) (weights : List ℕ) (m : ℕ) (rows : List Row) (ballots
             | inr other ↦ omega (arith, ahead x, count-cons (are_clones rows x) c [], ap bit other)
           ] in
           both_ways (is_no_better step (worth step weights rows set u.0) (worth step weights rows made c))
-          (worse m rows weights set made u.0 c step (c ∷ []) [] ballots falls strict
+          (worse m rows weights set made u.0 c step (c ∷ []) [] ballots falls
           (record {
             up = up;
             up' = up';
@@ -199,8 +199,8 @@ module _ (step : Step) (weights : List ℕ) (m : ℕ) (rows : List Row) (ballots
           let each = and_parts (nat_le low (2 ^ 128 - 1)) (list_all (λ d. nat_le low (w d)) free) (bounds-lowest w (2 ^ 128 - 1) low free ∙ le-leb low low (omega arith)) in
           omega (arith, more, leb-true low (w t) (all-at (λ d. nat_le low (w d)) free t each.1 parts.0))
 
-  independent-span : IsStrict weights → 0 < tied_worth step weights m rows set → shares_no_voter rows all ≡ true → IsSpan step weights m rows set last
-  independent-span strict some apart =
+  independent-span : 0 < tied_worth step weights m rows set → shares_no_voter rows all ≡ true → IsSpan step weights m rows set last
+  independent-span some apart =
       record {
         increasing = (tied-last step weights m rows set up).0;
         ahead = λ x. omega (arith, last-count (are_clones rows x));
@@ -217,7 +217,7 @@ module _ (step : Step) (weights : List ℕ) (m : ℕ) (rows : List Row) (ballots
                   let z = some-passes (are_clones rows y.0) (open_candidates step m made)
                   (omega (arith, y.2, count-open step (are_clones rows y.0) m made up', count-open step (are_clones rows y.0) m last (tied-last step weights m rows set up).0)) in
                   let t = tied-worth made up' ahead z.0 z.1 apart above (omega (arith, y.2, same y.0 z.0 z.2 (picked step m made), same y.0 z.0 z.2 (picked step m last))) in
-                  absurd (tied-less made up' ahead c free strict (tied-positive some) full t.0 (tied-is step weights m rows set t.0 t.1)
+                  absurd (tied-less made up' ahead c free (tied-positive some) full t.0 (tied-is step weights m rows set t.0 t.1)
                   (no_better-joined step (worth step weights rows set t.0) (worth step weights rows made z.0) (worth step weights rows made c) t.2 (choice-best step weights m rows made c z.0 is z.1)))
             ];
         may = λ made c up' ahead free above.
@@ -250,10 +250,10 @@ module _ (weights : List ℕ) (m : ℕ) (rows : List Row) (ballots : AreBallots 
   }
 
 -- from a set to its end exactly the choices are made that lead no further
-pub end-span : (step : Step) (weights : List ℕ) (m : ℕ) (rows : List Row) → AreBallots m rows → IsFalling weights → IsStrict weights → (set last : List ℕ) → IsIncreasing 1 m set
+pub end-span : (step : Step) (weights : List ℕ) (m : ℕ) (rows : List Row) → AreBallots m rows → IsFalling weights → (set last : List ℕ) → IsIncreasing 1 m set
     → end step weights m rows set ≡ Some last → IsSpan step weights m rows set last × (chosen step m set < m → chosen step m set < chosen step m last)
 unfolding end
-end-span step weights m rows ballots falls strict set last up is = by step (is_settled step weights m rows set) (is_independent step weights m rows set) refl refl is
+end-span step weights m rows ballots falls set last up is = by step (is_settled step weights m rows set) (is_independent step weights m rows set) refl refl is
   where
     by : (s : Step) (b i : Bool) → is_settled s weights m rows set ≡ b → is_independent s weights m rows set ≡ i → cond b (Some (range_with_len 1 m)) (cond i (Some (fold (change s) set (ties s weights m rows set))) None) ≡ Some last
         → IsSpan s weights m rows set last × (chosen s m set < m → chosen s m set < chosen s m last)
@@ -266,7 +266,7 @@ end-span step weights m rows ballots falls strict set last up is = by step (is_s
         let at : fold (change s) set all ≡ last = ap (end_or []) e in
         let both = and_parts (nat_lt 0 (tied_worth s weights m rows set)) (nat_le 2 (length all) && shares_no_voter rows all) independent in
         let parts = and_parts (nat_le 2 (length all)) (shares_no_voter rows all) both.1 in (
-          subst (IsSpan s weights m rows set) at (independent-span s weights m rows ballots falls set up strict (ltb-true 0 (tied_worth s weights m rows set) both.0) parts.1),
+          subst (IsSpan s weights m rows set) at (independent-span s weights m rows ballots falls set up (ltb-true 0 (tied_worth s weights m rows set) both.0) parts.1),
           λ few. omega (
             arith,
             last-count s weights m rows ballots falls set up (λ (x : ℕ). true),

@@ -1,6 +1,7 @@
 -- The committees of the families of the last level are the winners of a sequential rule.
 use Rattle.std.proofs.lemmas.Grind.{common_steps}
-use Rattle.std.proofs.Common.{◌≡◌, ℕ, zero, suc, ◌+◌, ◌-◌, ◌≤◌, ◌∙◌, Bool, true, List, sym, ap, arith, inl, inr, length, get_or, Contains, add-one}
+use Rattle.std.proofs.Common.{◌≡◌, ℕ, zero, suc, ◌+◌, ◌-◌, ◌*◌, ◌/◌, ◌≤◌, ◌∙◌, Bool, true, List, sym, ap, arith, inl, inr, length, get_or, Contains, add-one}
+use Rattle.std.proofs.Math.Nat.{mul-le-mul, mul-div_cancel'}
 use Rattle.std.specs.Prelude.{nat_le}
 use Rattle.std.specs.List.{list_any, range_with_len}
 use Rattle.std.proofs.lemmas.Bool.{cases_lt, le-leb, leb-true, ne_eqb}
@@ -19,7 +20,7 @@ use Rattle.tie_walk.proofs.LevelLemmas.{in_bounds, followed-candidates}
 use Rattle.tie_walk.proofs.SequenceLemmas.{grown_set-made, left_set-made}
 use Rattle.tie_walk.proofs.StepLemmas.{has_member-range}
 use Rattle.ballot_base.specs.Clones.{are_clones}
-use Rattle.ballot_base.proofs.WeightLemmas.{quotient-falls}
+use Rattle.ballot_base.proofs.LeastMultiples.{common_multiple_divides}
 use Rattle.tie_families.specs.Clones.{clone_count, has_as_many}
 use Rattle.tie_families.specs.Steps.Levels.{chosen, IsBelow, IsFalling, IsReachedBy}
 use Rattle.tie_families.proofs.CloneLemmas.{clones-sameness}
@@ -27,30 +28,23 @@ use Rattle.tie_families.proofs.Lists.{all-at, all-from}
 use Rattle.tie_families.proofs.Numbers.{some-passes, count-class}
 use Rattle.tie_families.proofs.Picked.{chosen-left}
 
--- ---- later hits bring no more
+-- ---- after a hit that brings something, the next one brings less
 
-hit-falls : (rule : SeqRule) (m j : ℕ) → 1 ≤ j → hit_weight rule m (j + 1) ≤ hit_weight rule m j
-hit-falls SeqPav m j low = quotient-falls (common_multiple m) j low
-hit-falls SeqCc m j low = rw (ne_eqb (j + 1) 1 (λ e. omega (arith, e, low))) (omega arith)
-hit-falls RevSeqPav m j low = quotient-falls (common_multiple m) j low
+exact-falls : (n a b j : ℕ) → 1 ≤ j → n ≡ j * a → n ≡ (j + 1) * b → b ≤ a - 1
+exact-falls n a b j low at next = grind (arith, common_steps, cases_lt, mul-le-mul)
 
-hits-fall : (rule : SeqRule) (m i : ℕ) → get_or (hit_weights rule m) (i + 1) 0 ≤ get_or (hit_weights rule m) i 0
-hits-fall rule m i = grind (arith, common_steps, cases_lt, hit_weights-at, hit-falls, get_or_past, hit_weights-length)
+shares-fall : (m j : ℕ) → 1 ≤ j → j + 1 ≤ m → common_multiple m / (j + 1) ≤ common_multiple m / j - 1
+shares-fall m j low high = grind (arith, common_steps, mul-div_cancel', common_multiple_divides, exact-falls)
 
-fall-by : (rule : SeqRule) (m a n : ℕ) → get_or (hit_weights rule m) (a + n) 0 ≤ get_or (hit_weights rule m) a 0
-fall-by rule m a zero = let e : a + 0 ≡ a = omega arith in omega (arith, ap (λ i. get_or (hit_weights rule m) i 0) e)
-fall-by rule m a (suc n) = grind (arith, common_steps, fall-by rule m a n, get_or, hits-fall)
+hit-falls : (rule : SeqRule) (m j : ℕ) → 1 ≤ j → j + 1 ≤ m → hit_weight rule m (j + 1) ≤ hit_weight rule m j - 1
+hit-falls SeqPav m j low high = shares-fall m j low high
+hit-falls SeqCc m j low high = rw (ne_eqb (j + 1) 1 (λ e. omega (arith, e, low))) (omega arith)
+hit-falls RevSeqPav m j low high = shares-fall m j low high
 
 pub hit_weights-fall : (rule : SeqRule) (m : ℕ) → IsFalling (hit_weights rule m)
-hit_weights-fall rule m a b h =
-    let e : a + (b - a) ≡ b = omega (arith, h) in
-    omega (
-      arith,
-      ap (weight (hit_weights rule m)) (add-one a),
-      ap (weight (hit_weights rule m)) (add-one b),
-      ap (λ i. get_or (hit_weights rule m) i 0) e,
-      fall-by rule m a (b - a),
-    )
+hit_weights-fall rule m zero low = absurd (omega (arith, low))
+hit_weights-fall rule m (suc j) low =
+    grind (arith, common_steps, get_or, add-one, cases_lt, hit_weights-at, hit-falls, get_or_past, hit_weights-length)
 
 -- ---- as many of each class, as a test
 

@@ -19,7 +19,7 @@ ghost use Rattle.ballot_base.specs.Limits.{most_candidates};
 ghost use Rattle.ballot_base.specs.Lists.{IsIncreasing};
 ghost use Rattle.tie_walk.specs.Steps.Choices.{HasSetsOf, change, worth};
 ghost use Rattle.ballot_base.specs.Clones.{AreClones};
-ghost use Rattle.tie_families.specs.Steps.Levels.{is_first_open, has_settled, ties, tied_worth, shares_no_voter, end, chosen, family_changes, other_end, IsFalling, IsStrict, IsFamilyLevel, IsNextFamilies};
+ghost use Rattle.tie_families.specs.Steps.Levels.{is_first_open, has_settled, ties, tied_worth, shares_no_voter, end, chosen, family_changes, other_end, IsFalling, IsFamilyLevel, IsNextFamilies};
 
 use ballot_base::{CandSet, Clones, Profile, Worths};
 use std::alloc::{AllocError, Allocator};
@@ -99,7 +99,6 @@ pub(crate) struct Levels<'a, A: Allocator + Copy> {
     ghost classes: { AreClones profile.now.m profile.now.rows clones.now },
     ghost small: { (j : ℕ) → slice_index weights.now j < 2 ^ 90 },
     ghost falling: { IsFalling weights.now },
-    ghost strict: { IsStrict weights.now },
 }
 
 impl<A: Allocator + Copy> Levels<'_, A> {

@@ -102,13 +102,9 @@ IsBelow rows set other = (c : ℕ) → clone_count rows set c ≤ clone_count ro
 abbrev pub IsAhead : Step → ℕ → List Row → List ℕ → List ℕ → Type 0
 IsAhead step m rows set other = IsBelow rows (picked step m set) (picked step m other)
 
--- later hits bring no more than earlier ones
+-- after a hit that brings something, the next one brings less, and after another one it brings nothing
 abbrev pub IsFalling : List ℕ → Type 0
-IsFalling weights = (a b : ℕ) → a ≤ b → weight weights (b + 1) ≤ weight weights (a + 1)
-
--- after a hit that brings something, the next one brings less
-abbrev pub IsStrict : List ℕ → Type 0
-IsStrict weights = (j : ℕ) → 0 < weight weights (j + 1) → weight weights (j + 1 + 1) < weight weights (j + 1)
+IsFalling weights = (j : ℕ) → 1 ≤ j → weight weights (j + 1) ≤ weight weights j - 1
 
 module _ (step : Step) (weights : List ℕ) (m : ℕ) (rows : List Row) where
   -- some list of this many choices makes the set

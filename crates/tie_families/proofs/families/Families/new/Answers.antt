@@ -2,9 +2,9 @@ use Rattle.std.proofs.Common.{◌≡◌, ◌∙◌, ap, sym, subst, arith, get_o
 use Rattle.tie_walk.specs.Sequences.{hit_weights}
 use Rattle.tie_walk.specs.Steps.Choices.{choices_of}
 use Rattle.tie_walk.proofs.HitWeights.{hit_weights-small}
-use Rattle.tie_families.specs.Steps.Levels.{other_end, IsFalling, IsStrict, AreFamilies}
+use Rattle.tie_families.specs.Steps.Levels.{other_end, IsFalling, AreFamilies}
 use Rattle.tie_families.proofs.WinnerLemmas.{hit_weights-fall}
-use Rattle.tie_families.proofs.FamilyLemmas.{hit_weights-strict, last-families, leasts_of, mosts_of}
+use Rattle.tie_families.proofs.FamilyLemmas.{last-families, leasts_of, mosts_of}
 use Rattle.tie_families.proofs.families.Families.new.Goals as goal
 use Rattle.tie_families.proofs.families.Families.new.Goals.{in-Grow, in-Shrink}
 
@@ -16,7 +16,6 @@ invariant_of-levels g c =
       classes = c.of-clones.ensures;
       small = λ j. omega (arith, ap (λ l. get_or l j 0) are, hit_weights-small c.args.rule m j (omega (arith, c.m-m.ensures.value, c.m-m.ensures.valid.most)));
       falling = subst IsFalling (sym are) (hit_weights-fall c.args.rule m);
-      strict = subst IsStrict (sym are) (hit_weights-strict c.args.rule m);
     }
 
 pub invariant_of-result-2 : goal.invariant_of-result-2
