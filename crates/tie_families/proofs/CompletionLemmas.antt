@@ -11,7 +11,10 @@ use Rattle.ballot_base.specs.CandSet.{has_member, with_member}
 use Rattle.ballot_base.specs.Ballots.{Row}
 use Rattle.ballot_base.proofs.Committees.{increasing_lists-contains, chosen-from_contains}
 use Rattle.ballot_base.proofs.Increasing.{IsIncreasing-lower, IsIncreasing-higher, IsIncreasing-push, IsIncreasing-filter, IsIncreasing-with_member, has_member-above, has_member-below, has_member-filter, same_increasing, with_member-above}
+use Rattle.ballot_base.proofs.Sums.{sum-among}
+use Rattle.tie_walk.proofs.LawLemmas.{IsIncreasing-range}
 use Rattle.tie_walk.proofs.SequenceLemmas.{length-with_member}
+use Rattle.tie_walk.proofs.StepLemmas.{has_member-range}
 use Rattle.ballot_base.specs.Clones.{are_clones}
 use Rattle.tie_families.specs.Clones.{clone_count, has_as_many, is_between}
 use Rattle.tie_families.specs.Steps.Families.{may_be_in}
@@ -28,19 +31,6 @@ pub joined-increasing : (c m : ℕ) (first : ℕ) (set added : List ℕ) → fir
 joined-increasing c m first [] added low fits up up' = IsIncreasing-lower first (c + 1) m added low up'
 joined-increasing c m first (x ∷ set) added low fits up up' =
     (up.0, omega (arith, up.1, fits), joined-increasing c m (x + 1) set added (omega (arith, up.1)) fits up.2 up')
-
--- no more of a class than a range has
-range-most : (p : ℕ → Bool) (n first last : ℕ) (set : List ℕ) → first + n ≡ last + 1 → IsIncreasing first last set → count_by p set ≤ count_by p (range_with_len first n)
-range-most p n first last [] all up = omega arith
-range-most p zero first last (x ∷ xs) all up = absurd (omega (arith, all, up.0, up.1))
-range-most p (suc n) first last (x ∷ xs) all up = elim (cases_eq x first) [
-  | inl same ↦
-      let rest = range-most p n (first + 1) last xs (omega (arith, all)) (subst (λ k. IsIncreasing (k + 1) last xs) same up.2) in
-      omega (arith, rest, count-cons p x xs, count-cons p first (range_with_len (first + 1) n), ap (λ k. bit (p k)) same)
-  | inr other ↦
-      let rest = range-most p n (first + 1) last (x ∷ xs) (omega (arith, all)) (omega (arith, up.0, other), up.1, up.2) in
-      omega (arith, rest, count-cons p first (range_with_len (first + 1) n))
-]
 
 bounded : (first last : ℕ) (xs : List ℕ) (x : ℕ) → IsIncreasing first last xs → has_member xs x ≡ true → (first ≤ x) × (x ≤ last)
 bounded first last xs x up inside =
@@ -173,7 +163,15 @@ module _ (m : ℕ) (rows : List Row) (c : ℕ) (set : List ℕ) (left : ℕ) (fa
 
   -- a set and candidates after it have no more of a class than the set and all of them
   joined-most : (added : List ℕ) → IsIncreasing (c + 1) m added → (y : ℕ) → clone_count rows (set ++ added) y ≤ clone_count rows set y + count_by (are_clones rows y) (range_with_len (c + 1) (m - c))
-  joined-most added up' y = omega (arith, count-append (are_clones rows y) set added, range-most (are_clones rows y) (m - c) (c + 1) m added (omega (arith, within)) up')
+  joined-most added up' y =
+      let range = range_with_len (c + 1) (m - c) in
+      let lower = λ (list : List ℕ). IsIncreasing-lower 1 (c + 1) m list (omega arith) in
+      omega (
+        arith,
+        count-append (are_clones rows y) set added,
+        sum-among (λ x. cond (are_clones rows y x) 1 0) m added range (lower added up') (lower range (IsIncreasing-range (c + 1) (m - c) m (omega (arith, within))))
+            (λ n here. let bounds = bounded (c + 1) m added n up' here in has_member-range (c + 1) (m - c) n bounds.0 (omega (arith, bounds.1))),
+      )
 
   may-from : (added : List ℕ) → IsIncreasing (c + 1) m added → length added ≡ left → is_between m rows family.0 family.1 (set ++ added) ≡ true → may_be_in m rows c set left family ≡ true
   unfolding all full

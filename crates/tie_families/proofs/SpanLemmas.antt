@@ -66,16 +66,6 @@ module _ (step : Step) (weights : List ℕ) (m : ℕ) (rows : List Row) (set : L
       × ((p : ℕ → Bool) → count_by p (picked step m (fold (change step) set (ties step weights m rows set))) ≡ count_by p (picked step m set) + count_by p (ties step weights m rows set))
   tied-last up = changed-all step m 1 set (ties step weights m rows set) up tied-increasing tied-open
 
--- an end is a set of candidates
-pub end-increasing : (step : Step) (weights : List ℕ) (m : ℕ) (rows : List Row) (set last : List ℕ) → IsIncreasing 1 m set → end step weights m rows set ≡ Some last → IsIncreasing 1 m last
-unfolding end
-end-increasing step weights m rows set last up is = by (is_settled step weights m rows set) (is_independent step weights m rows set) is
-  where
-    by : (s i : Bool) → cond s (Some (range_with_len 1 m)) (cond i (Some (fold (change step) set (ties step weights m rows set))) None) ≡ Some last → IsIncreasing 1 m last
-    by true i e = subst (IsIncreasing 1 m) (ap (end_or []) e) (IsIncreasing-range 1 m m (omega arith))
-    by false true e = subst (IsIncreasing 1 m) (ap (end_or []) e) (tied-last step weights m rows set up).0
-    by false false e = absurd (let f : false ≡ true = ap is_some e in cc)
-
 -- ---- an independent set
 
 module _ (step : Step) (weights : List ℕ) (m : ℕ) (rows : List Row) (ballots : AreBallots m rows) (falls : IsFalling weights) (set : List ℕ) (up : IsIncreasing 1 m set) where

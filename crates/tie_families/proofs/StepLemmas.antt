@@ -93,20 +93,6 @@ end-found step weights m n rows set w best same are found =
     let is = best-found step weights m n rows set w best same are found in
     rw (settled-is step weights m rows set best is, is) refl
 
-pub row-at : (rows : List Row) (i : ℕ) (row : Row) → slice_get rows i ≡ Some row → (i < length rows) × (get_or rows i row ≡ row)
-row-at [] i row found = absurd (let f : false ≡ true = ap is_some found in cc)
-row-at (r ∷ rows) zero row found = (omega arith, ap (λ o. of_some o row) found)
-  where
-    of_some : Option Row → Row → Row
-    of_some None d = d
-    of_some (Some x) d = x
-row-at (r ∷ rows) (suc i) row found = grind (arith, common_steps, row-at rows i row found)
-
--- ---- a set that is gone through
-
-pub first-parts : (left rest : List ℕ) (k last : ℕ) → left ≡ k ∷ rest → IsIncreasing 1 last left → ((1 ≤ k) × (k ≤ last)) × IsIncreasing 1 last rest
-first-parts left rest k last parts up = grind (arith, common_steps, IsIncreasing-lower)
-
 -- ---- what follows a set, as the code finds it
 
 -- the first of the sets that are left is inserted

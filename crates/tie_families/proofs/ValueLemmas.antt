@@ -81,18 +81,11 @@ module _ {e : Election} {rule : SeqRule} {m k : ℕ} {clones leasts mosts : List
       ∙ some-is e rule k fits leasts mosts keeps.families c set left (omega (arith, within, ap (λ (t : Sequential). t.election.m) is)) up (sym whole)
       ∙ ap {B = Bool} (λ (t : Sequential). some_winner t c set left) is
 
-  -- a set of a family
-  set-of : (list sets : List (List ℕ)) (i : ℕ) (set : List ℕ) → list ≡ sets → AllByRecursion (λ x. IsIncreasing 1 e.m x) sets → i < length list → ((d : List ℕ) → set ≡ get_or list i d)
-      → IsIncreasing 1 s.election.m set
-  set-of list sets i set same all inside at =
-      subst (λ (t : Sequential). IsIncreasing 1 t.election.m set) is
-      (subst (IsIncreasing 1 e.m) (sym (at [])) (All-from_recursion (λ x. IsIncreasing 1 e.m x) list (subst (AllByRecursion (λ x. IsIncreasing 1 e.m x)) (sym same) all) i [] inside))
-
+  -- a least set is a set of candidates
   pub least-of : (list : List (List ℕ)) (i : ℕ) (set : List ℕ) → list ≡ leasts → i < length list → ((d : List ℕ) → set ≡ get_or list i d) → IsIncreasing 1 s.election.m set
-  least-of list i set same = set-of list leasts i set same keeps.families.least_sets
-
-  pub most-of : (list : List (List ℕ)) (i : ℕ) (set : List ℕ) → list ≡ mosts → i < length list → ((d : List ℕ) → set ≡ get_or list i d) → IsIncreasing 1 s.election.m set
-  most-of list i set same = set-of list mosts i set same keeps.families.most_sets
+  least-of list i set same inside at =
+      subst (λ (t : Sequential). IsIncreasing 1 t.election.m set) is
+      (subst (IsIncreasing 1 e.m) (sym (at [])) (All-from_recursion (λ x. IsIncreasing 1 e.m x) list (subst (AllByRecursion (λ x. IsIncreasing 1 e.m x)) (sym same) keeps.families.least_sets) i [] inside))
 
 -- a committee completes itself
 pub value-is : (s : Sequential) (set : List ℕ) → some_winner s s.election.m set 0 ≡ is_winner s set
