@@ -1,25 +1,18 @@
 -- Clones bring a set the same, and two sets with as many of each class of clones gain and lose the same.
 use Rattle.std.proofs.lemmas.Grind.{common_steps}
-use Rattle.std.proofs.Common.{◌≡◌, ℕ, ◌≤◌, ◌∙◌, Bool, true, false, cond, List, [], ◌∷◌, refl, sym, ap, arith, length, count_by}
-use Rattle.std.proofs.Math.Nat.{mul-le-mul}
+use Rattle.std.proofs.Common.{◌≡◌, ℕ, ◌∙◌, Bool, true, false, List, [], ◌∷◌, refl, sym, ap, arith, length, count_by}
 use Rattle.std.specs.List.{AllByRecursion}
 use Rattle.std.proofs.lemmas.Bool.{and_parts, and_from}
-use Rattle.std.proofs.lemmas.List.Sums.{sum_by-cons, length-filter}
+use Rattle.std.proofs.lemmas.List.Sums.{length-filter}
 use Rattle.std.proofs.Math.Bool.{and_comm}
 use Rattle.ballot_base.specs.Lists.{IsIncreasing}
 use Rattle.ballot_base.specs.CandSet.{has_member, common_members}
 use Rattle.ballot_base.specs.Ballots.{Row, hits}
 use Rattle.ballot_base.proofs.Increasing.{IsIncreasing-filter, has_member-filter, same_increasing}
-use Rattle.tie_walk.specs.Sequences.{weight, gain}
-use Rattle.tie_walk.specs.Steps.Choices.{worth, hits_of}
-use Rattle.tie_walk.specs.declared.sequential.Step.{Step}
-use Rattle.tie_walk.specs.declared.sequential.Step.TheVariants.{Grow}
-use Rattle.tie_walk.proofs.RowSums.{AreBallots, length-common}
-use Rattle.tie_walk.proofs.WorthLemmas.{share, partial, worth-whole}
+use Rattle.tie_walk.proofs.RowSums.{length-common}
 use Rattle.ballot_base.proofs.CloneLemmas.{both-same, is_both}
 use Rattle.ballot_base.specs.Clones.{are_clones}
-use Rattle.tie_families.specs.Steps.Levels.{IsBelow, IsFalling}
-use Rattle.tie_families.proofs.Numbers.{bit, IsSameness, sums-within}
+use Rattle.tie_families.proofs.Numbers.{IsSameness}
 
 -- ---- clones are of one class
 

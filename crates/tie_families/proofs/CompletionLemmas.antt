@@ -4,7 +4,7 @@ use Rattle.std.proofs.lemmas.Grind.{common_steps}
 use Rattle.std.proofs.Common.{◌≡◌, ℕ, zero, suc, ◌+◌, ◌-◌, ◌≤◌, ◌∙◌, Bool, true, false, cond, not, ◌&&◌, ◌<◌, List, [], ◌∷◌, ◌++◌, sym, ap, subst, arith, inl, inr, filter, length, length-append, append_assoc, count_by, append-nil}
 use Rattle.std.specs.Prelude.{fold, nat_le}
 use Rattle.std.specs.List.{list_any, range_with_len}
-use Rattle.std.proofs.lemmas.Bool.{cases_Bool, cases_lt, cases_eq, both_ways, le-leb, leb-true, not-true, and_parts, and_from}
+use Rattle.std.proofs.lemmas.Bool.{cases_Bool, cases_lt, both_ways, le-leb, leb-true, not-true, and_parts, and_from}
 use Rattle.std.proofs.Math.Bool.{and_comm}
 use Rattle.ballot_base.specs.Lists.{IsIncreasing, increasing_lists}
 use Rattle.ballot_base.specs.CandSet.{has_member, with_member}

@@ -1,15 +1,12 @@
 -- Some sequence of choices makes a committee: at each set somebody ties for the best.
-use Rattle.std.proofs.lemmas.Grind.{common_steps}
-use Rattle.std.proofs.Common.{◌≡◌, ℕ, zero, suc, ◌+◌, ◌-◌, ◌<◌, ◌≤◌, ◌==◌, ◌∙◌, Bool, true, false, cond, List, [], ◌∷◌, refl, sym, ap, subst, arith, inl, inr, ◌⊎◌, length}
-use Rattle.std.specs.List.{range_with_len, AllByRecursion}
+use Rattle.std.proofs.Common.{◌≡◌, ℕ, zero, suc, ◌+◌, ◌≤◌, ◌==◌, ◌∙◌, Bool, true, false, cond, List, [], ◌∷◌, refl, sym, ap, subst, arith, inl, inr, ◌⊎◌, length}
 use Rattle.std.proofs.lemmas.Bool.{cases_lt, cases_eq, le-leb, or_right}
-use Rattle.std.proofs.lemmas.List.FromFn.{length-range_with_len}
 use Rattle.ballot_base.specs.Lists.{IsIncreasing, increasing_lists}
 use Rattle.ballot_base.specs.CandSet.{has_member}
 use Rattle.ballot_base.specs.Ballots.{Row, Election}
 use Rattle.ballot_base.proofs.Committees.{increasing_lists-contains}
 use Rattle.ballot_base.proofs.Increasing.{has_member_head, has_member_tail}
-use Rattle.tie_walk.specs.Sequences.{hit_weights, others, is_sequential_winner, sequential_winners}
+use Rattle.tie_walk.specs.Sequences.{hit_weights, is_sequential_winner, sequential_winners}
 use Rattle.tie_walk.specs.Steps.Choices.{step_of, choices_of, change, worth, is_no_better, open_candidates, is_choice, start}
 use Rattle.tie_walk.specs.Winners.{best_value, winners}
 use Rattle.tie_walk.specs.declared.sequential.SeqRule.{SeqRule}

@@ -1,33 +1,26 @@
 -- The families of the last level have the winners of a sequential rule.
-use Rattle.std.proofs.lemmas.Grind.{common_steps}
-use Rattle.std.proofs.Common.{◌≡◌, ℕ, zero, suc, ◌+◌, ◌*◌, ◌/◌, ◌<◌, ◌≤◌, ◌==◌, ◌||◌, ◌∙◌, Bool, true, false, cond, Option, Some, List, [], ◌∷◌, refl, sym, ap, subst, arith, inl, inr, length, map, get_or, Contains, add-one}
-use Rattle.std.proofs.Math.Nat.{mul-le-mul, mul-div_cancel'}
+use Rattle.std.proofs.Common.{◌≡◌, ℕ, zero, suc, ◌<◌, ◌≤◌, ◌==◌, ◌||◌, ◌∙◌, Bool, true, false, cond, Option, Some, List, [], ◌∷◌, refl, sym, ap, subst, arith, inl, inr, length, map, Contains}
 use Rattle.std.specs.Prelude.{slice_index_or}
 use Rattle.std.specs.List.{list_all, list_any, zip, AllByRecursion}
 use Rattle.std.specs.List.Sorted.{IsStrictlySortedBy}
 use Rattle.std.specs.Cmp.Lexicographic.{slice_cmp}
 use Rattle.std.specs.Ordering.{nat_cmp}
-use Rattle.std.proofs.lemmas.Bool.{cases_Bool, cases_lt, both_ways, and_parts, and_from, eqb-true, eq-eqb, ne_eqb}
-use Rattle.std.proofs.lemmas.List.{get_or_past, length-map}
+use Rattle.std.proofs.lemmas.Bool.{cases_Bool, both_ways, and_parts, and_from, eqb-true, eq-eqb}
+use Rattle.std.proofs.lemmas.List.{length-map}
 use Rattle.ballot_base.specs.Lists.{IsIncreasing}
-use Rattle.ballot_base.specs.CommonMultiple.{common_multiple}
 use Rattle.ballot_base.specs.Ballots.{Row, Election}
 use Rattle.ballot_base.specs.Clones.{are_clones}
-use Rattle.ballot_base.proofs.LeastMultiples.{common_multiple_divides}
 use Rattle.ballot_base.proofs.ListLemmas.{Contains-later}
-use Rattle.tie_walk.specs.Sequences.{hit_weight, hit_weights, is_sequential_winner}
+use Rattle.tie_walk.specs.Sequences.{hit_weights, is_sequential_winner}
 use Rattle.tie_walk.specs.Steps.Choices.{step_of, choices_of}
 use Rattle.tie_walk.specs.declared.sequential.SeqRule.{SeqRule}
-use Rattle.tie_walk.specs.declared.sequential.SeqRule.TheVariants.{SeqPav, SeqCc, RevSeqPav}
 use Rattle.tie_walk.specs.declared.sequential.Step.{Step}
 use Rattle.tie_walk.specs.declared.sequential.Step.TheVariants.{Grow, Shrink}
-use Rattle.tie_walk.proofs.HitWeights.{hit_weights-length, hit_weights-at}
 use Rattle.tie_walk.proofs.RowSums.{AreBallots}
 use Rattle.tie_families.specs.Clones.{has_as_many, is_between}
 use Rattle.tie_families.specs.Steps.Levels.{end, end_or, chosen, other_end, IsBelow, IsAhead, IsOf, IsPlaced, IsFamilyLevel, AreFamilies}
 use Rattle.tie_families.proofs.Lists.{same_tests, count-others}
 use Rattle.tie_families.proofs.LevelLemmas.{ahead-turned, level-candidates}
-use Rattle.tie_families.proofs.Numbers.{bit}
 use Rattle.tie_families.proofs.SpanLemmas.{IsSpan, end-span}
 use Rattle.tie_families.proofs.WinnerLemmas.{many-from, below-from, any-from, any-at, hit_weights-fall, rule-size, reached-wins, winner-reached}
 

@@ -1,9 +1,9 @@
 -- Families without clones: where each has k members, they are the winners.
 use Rattle.std.proofs.lemmas.Grind.{common_steps}
-use Rattle.std.proofs.Common.{◌≡◌, ℕ, ◌<◌, ◌≤◌, ◌==◌, ◌&&◌, ◌∙◌, true, List, [], ◌∷◌, sym, ap, subst, arith, inl, inr, length, get_or, Contains, Option, None, Some}
+use Rattle.std.proofs.Common.{◌≡◌, ℕ, ◌<◌, ◌≤◌, ◌==◌, ◌&&◌, ◌∙◌, true, List, [], ◌∷◌, sym, ap, subst, arith, length, get_or, Contains, Option, None, Some}
 use Rattle.std.specs.Prelude.{All, MatchOption, ⊤}
 use Rattle.std.specs.List.{list_all, list_any, range_with_len, zip, AllByRecursion}
-use Rattle.std.proofs.lemmas.Bool.{cases_Bool, cases_eq, eqb-true, both_ways, and_parts, and_from}
+use Rattle.std.proofs.lemmas.Bool.{cases_eq, eqb-true, and_parts, and_from}
 use Rattle.std.proofs.lemmas.Cmp.{nat_list_cmp_total}
 use Rattle.std.proofs.lemmas.List.{get_or_default}
 use Rattle.std.proofs.lemmas.List.Elements.{All-contains, All-from_recursion}

@@ -3,7 +3,7 @@ use Rattle.std.proofs.lemmas.Grind.{common_steps}
 use Rattle.std.proofs.Common.{◌≡◌, ℕ, is_some, ◌+◌, ◌<◌, ◌≤◌, ◌==◌, ◌&&◌, ◌^◌, ◌-◌, ◌∙◌, Bool, true, false, cond, List, [], ◌∷◌, Some, None, refl, sym, ap, subst, arith, inl, inr, length, count_by}
 use Rattle.std.specs.Prelude.{fold, nat_le, nat_lt}
 use Rattle.std.specs.List.{list_all, range_with_len}
-use Rattle.std.proofs.lemmas.Bool.{cases_Bool, cases_lt, and_parts, and_from, both_ways, not-true, le-leb, leb-true, ltb-true, eqb-true, or_right}
+use Rattle.std.proofs.lemmas.Bool.{cases_Bool, cases_lt, and_parts, and_from, both_ways, le-leb, leb-true, ltb-true, eqb-true, or_right}
 use Rattle.std.proofs.lemmas.List.FromFn.{length-range_with_len}
 use Rattle.ballot_base.specs.Lists.{IsIncreasing}
 use Rattle.ballot_base.specs.CandSet.{has_member, without_member}
@@ -24,7 +24,7 @@ use Rattle.tie_families.specs.Steps.Levels.{tied_worth, end_or, is_first_open, i
 use Rattle.tie_families.proofs.CloneLemmas.{clones-itself, clones-turned, clones-joined, clones-sameness, hits-members}
 use Rattle.tie_families.proofs.Lists.{all-at, all-pass, count-others}
 use Rattle.tie_families.proofs.Numbers.{bit, some-passes, some-more, member-counts, count-cons, count-class, count-without, length-sum}
-use Rattle.tie_families.proofs.Picked.{count-open, chosen-open, change-increasing, count-change, open-stays}
+use Rattle.tie_families.proofs.Picked.{count-open, change-increasing, count-change, open-stays}
 use Rattle.tie_families.proofs.RowLemmas.{each-row, few-of, worse, no-better}
 use Rattle.tie_families.proofs.TiedClones.{no_better-joined, no-better-ahead, open-moves, choice-from, choice-best, choice-open, first-tied}
 
@@ -97,8 +97,7 @@ module _ (step : Step) (weights : List ℕ) (m : ℕ) (rows : List Row) (ballots
         → (t : ℕ) × (has_member all t ≡ true) × (is_no_better step (worth step weights rows set t) (worth step weights rows made c) ≡ true)
     tied-worth apart above less =
         let t = some-passes (are_clones rows c) all (omega (arith, ahead c, less, last-count (are_clones rows c))) in
-        let fewer = λ (p : ℕ → Bool). count-without p 1 m all t.0 (tied-increasing step weights m rows set) t.1 in
-        (
+        let fewer = λ (p : ℕ → Bool). count-without p 1 m all t.0 (tied-increasing step weights m rows set) t.1 in (
           t.0,
           t.1,
           no-better m rows weights made set c t.0 step [] (without_member all t.0) ballots falls (record {

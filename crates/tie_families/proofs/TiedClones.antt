@@ -15,7 +15,6 @@ use Rattle.tie_walk.specs.declared.sequential.Step.TheVariants.{Grow, Shrink}
 use Rattle.tie_walk.proofs.LawLemmas.{IsIncreasing-range}
 use Rattle.tie_walk.proofs.LevelLemmas.{in_bounds}
 use Rattle.tie_walk.proofs.RowSums.{AreBallots}
-use Rattle.tie_families.specs.Clones.{clone_count}
 use Rattle.tie_families.specs.Steps.Levels.{picked, is_first_open, IsAhead, IsFalling}
 use Rattle.tie_families.proofs.CloneLemmas.{clones-itself, clones-turned, clones-joined, clones-sameness}
 use Rattle.tie_families.proofs.Lists.{all-at, all-from, all-pass, some-fails, open-is, open-from}

@@ -199,7 +199,11 @@ impl<A: Allocator + Copy + Drop> Levels<'_, A> {
     }
 
     /// The level after this many choices.
-    pub(crate) fn reached_families(&self, alloc: A, choices: u8) -> Result<Vec<CandSet, A>, AllocError>
+    pub(crate) fn reached_families(
+        &self,
+        alloc: A,
+        choices: u8,
+    ) -> Result<Vec<CandSet, A>, AllocError>
         requires { choices ≤ self.now.profile.now.m }
         ensures { IfOk result (λ sets. IsFamilyLevel
             self.now.step self.now.weights.now self.now.profile.now.m self.now.profile.now.rows choices sets.items) }
@@ -213,7 +217,12 @@ impl<A: Allocator + Copy + Drop> Levels<'_, A> {
     }
 
     /// The other ends of families, in order.
-    pub(crate) fn other_ends(&self, alloc: A, k: u8, sets: &[CandSet]) -> Result<Vec<CandSet, A>, AllocError>
+    pub(crate) fn other_ends(
+        &self,
+        alloc: A,
+        k: u8,
+        sets: &[CandSet],
+    ) -> Result<Vec<CandSet, A>, AllocError>
         ensures { IfOk result (λ ends. ends.items ≡ map (other_end
             self.now.step self.now.weights.now self.now.profile.now.m self.now.profile.now.rows k) sets.now) }
     {

@@ -1,4 +1,4 @@
-use Rattle.std.proofs.Common.{◌≡◌, ◌+◌, ◌-◌, ◌≤◌, ◌∙◌, sym, ap, subst, arith, List}
+use Rattle.std.proofs.Common.{◌≡◌, ◌+◌, ◌-◌, ◌∙◌, sym, ap, subst, arith, List}
 use Rattle.ballot_base.specs.Ballots.{Row}
 use Rattle.ballot_base.specs.Clones.{AreClones}
 use Rattle.std.specs.Prelude.{fold}

@@ -1,4 +1,4 @@
-use Rattle.std.proofs.Common.{ℕ, Bool, ◌<◌, ◌≤◌, sym, arith}
+use Rattle.std.proofs.Common.{◌<◌, ◌≤◌, sym, arith}
 use borrow.Author.Count.{below_more}
 use Rattle.std.specs.Prelude.{nat_le}
 use Rattle.std.specs.List.{range_with_len}

@@ -2,7 +2,6 @@ use Rattle.std.proofs.lemmas.Grind.{common_steps}
 use Rattle.std.proofs.lemmas.Bool.Decides.{nat_tests}
 use Rattle.std.proofs.Common.{◌≡◌, ℕ, ◌-◌, ◌^◌, ◌==◌, ◌&&◌, ◌∙◌, Bool, true, false, [], sym, ap, arith, get_or, filter}
 use Rattle.std.specs.List.{range_with_len}
-use Rattle.std.proofs.lemmas.Bool.{and_from, and_left, and_right, eq-eqb, ne_eqb}
 use Rattle.tie_walk.specs.Steps.Choices.{may_choose}
 use Rattle.tie_walk.proofs.StepLemmas.{filter-left}
 use Rattle.tie_walk.proofs.WorthLemmas.{worth-most}
