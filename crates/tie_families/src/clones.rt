@@ -5,7 +5,7 @@ ghost use Rattle.ballot_base.specs.Lists.{IsIncreasing};
 ghost use Rattle.ballot_base.specs.Ballots.{Row};
 ghost use Rattle.ballot_base.specs.Clones.{AreClones};
 ghost use Rattle.tie_families.specs.Clones.{clone_count, has_as_many, is_between};
-ghost use Rattle.tie_families.specs.Steps.Families.{AreApart};
+ghost use Rattle.tie_families.specs.Steps.Families.{are_apart};
 ghost use Rattle.tie_families.specs.Steps.Tables.{completed};
 
 use ballot_base::{CandSet, Clones};
@@ -21,14 +21,9 @@ pub(crate) struct Classes {
 impl Classes {
     /// Whether each candidate is its only clone.
     pub(crate) fn are_apart(&self) -> bool
-        ensures { result ≡ true → AreApart self.now.m self.now.clones }
+        ensures { result ≡ are_apart self.now.m self.now.clones }
     {
-        for c in 1..self.m + 1 {
-            if self.clones.class(c).len() != 1 {
-                return false;
-            }
-        }
-        true
+        (1..self.m + 1).all(|c| self.clones.class(c).len() == 1)
     }
 
     /// How many clones of `c` a set has.

@@ -174,8 +174,7 @@ impl<A: Allocator + Copy> Levels<'_, A> {
         if set.len() == k {
             return set;
         }
-        let (_ties, end) = self.ties_and_end(set);
-        end.unwrap_or(set)
+        self.ties_and_end(set).1.unwrap_or(set)
     }
 }
 
