@@ -158,12 +158,12 @@ impl<A: Allocator + Copy> Levels<'_, A> {
             next.new.keys) }
     {
         let (tied, end) = self.ties_and_end(set);
-        if let Some(last) = end {
-            let is_over = chosen(self.step, self.profile.m(), last) <= size + 1;
-            next.insert(if is_over { last } else { set })?;
-            return Ok(());
-        }
-        insert_each(next, self.step, set, tied)
+        let Some(last) = end else {
+            return insert_each(next, self.step, set, tied);
+        };
+        let is_over = chosen(self.step, self.profile.m(), last) <= size + 1;
+        next.insert(if is_over { last } else { set })?;
+        Ok(())
     }
 
     /// The other end of a family of committees of size `k`: its set if that has size `k`, and otherwise its `end`.

@@ -9,8 +9,8 @@ use Rattle.tie_families.proofs.StepLemmas.{changes-none, changes-last}
 use Rattle.tie_families.proofs.levels.Levels.insert_changes.Goals as goal
 use Rattle.tie_families.proofs.levels.Levels.insert_changes.Goals.{then-is_over, else-is_over}
 
-pub returns-in-Some : goal.returns-in-Some
-returns-in-Some g c =
+pub returns : goal.returns
+returns g c =
     let e = c.args.self.now.profile.now in
     let step = c.args.self.now.step in
     let size = c.args.size in
@@ -23,8 +23,8 @@ returns-in-Some g c =
     let next : c.if-is_over.insert ≡ cond (nat_le (chosen step e.m last) (size + 1)) last set = grind (arith, common_steps, nat_tests) in
     subst (λ l. HasSetsOf (keys ++ l) c.insert.new.self.keys) (changes-last step weights e.m e.rows size set last c.if-is_over.insert is next) (found-inserted keys c.insert.new.self.keys c.if-is_over.insert c.in_ok-insert.ensures.updates.0)
 
-pub returns : goal.returns
-returns g c =
+pub returns-in_default : goal.returns-in_default
+returns-in_default g c =
     let e = c.args.self.now.profile.now in
     let step = c.args.self.now.step in
     let set = c.args.set in
