@@ -1,4 +1,4 @@
--- Clones bring a set the same, and two sets with as many of each class of clones gain and lose the same.
+-- Clones are of one class, and each row approves all of a class or none.
 use Rattle.std.proofs.lemmas.Grind.{common_steps}
 use Rattle.std.proofs.Common.{◌≡◌, ℕ, ◌∙◌, Bool, true, false, List, [], ◌∷◌, refl, sym, ap, arith, length, count_by}
 use Rattle.std.specs.List.{AllByRecursion}

@@ -15,6 +15,7 @@ use Rattle.tie_walk.specs.declared.sequential.Step.{Step}
 use Rattle.tie_walk.specs.declared.sequential.Step.TheVariants.{Grow, Shrink}
 use Rattle.tie_walk.proofs.RowSums.{AreBallots}
 use Rattle.tie_walk.proofs.WorthLemmas.{share, partial, worth-whole}
+use Rattle.ballot_base.proofs.ListLemmas.{AllByRecursion-weaker}
 use Rattle.ballot_base.specs.Clones.{are_clones}
 use Rattle.tie_families.specs.Clones.{clone_count}
 use Rattle.tie_families.specs.Steps.Levels.{picked, IsFalling}
@@ -81,10 +82,6 @@ module _ (step : Step) (weights set other : List ℕ) (c d : ℕ) where
         sum_by-cons (λ (r : Row). r.1 * share step weights other d r) row rows,
       )
 
-  all-later : (rows : List Row) → AllByRecursion (IsLaterBy 1) rows → AllByRecursion (IsLaterBy 0) rows
-  all-later [] later = tt
-  all-later (row ∷ rows) later = (later-by_more row later.0, all-later rows later.1)
-
   products : (n s t : ℕ) → t ≤ s → (0 < s → t < s) → 0 < n * s → n * t < n * s
   products zero s t most less positive = absurd (omega (arith, positive))
   products (suc n) zero t most less positive = absurd (let e : suc n * 0 ≡ 0 = grind arith in omega (arith, positive, e))
@@ -100,7 +97,7 @@ module _ (step : Step) (weights set other : List ℕ) (c d : ℕ) where
       elim (cases_lt 0 (row.1 * share step weights set c row)) [
         | inl some ↦
             let first = products row.1 (share step weights set c row) (share step weights other d row) (shares-later falls row same-or-less) (shares-less falls row later.0) some in
-            omega (arith, own, its, first, partials-later falls rows (all-later rows later.1))
+            omega (arith, own, its, first, partials-later falls rows (AllByRecursion-weaker (IsLaterBy 1) (IsLaterBy 0) later-by_more rows later.1))
         | inr none ↦ omega (arith, own, its, voters-later falls row same-or-less, partials-less falls rows later.1 (omega (arith, own, positive, none)))
       ]
 
@@ -186,5 +183,5 @@ module _ (m : ℕ) (rows : List Row) (weights set other : List ℕ) (c d : ℕ) 
       lt-leb (gain weights rows set c) (gain weights rows other d) (worth-less Grow weights set other c d falls rows (rows-later Grow 1 more less ballots h) some)
   worse Shrink more less ballots falls h some =
       let later = rows-later Shrink 1 more less ballots h in
-      let no_less = worth-later Shrink weights other set d c falls rows (all-later Shrink weights other set d c rows later) in
+      let no_less = worth-later Shrink weights other set d c falls rows (AllByRecursion-weaker (IsLaterBy Shrink weights other set d c 1) (IsLaterBy Shrink weights other set d c 0) (later-by_more Shrink weights other set d c) rows later) in
       lt-leb (loss weights rows other d) (loss weights rows set c) (worth-less Shrink weights other set d c falls rows later (omega (arith, some, no_less)))

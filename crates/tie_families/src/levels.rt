@@ -1,7 +1,7 @@
 //! The families that the choices of a sequential rule make, level by level. Three facts keep the levels short.
 //!
 //! - **Clones tie.** Whether a set is reached, what it gains and what it loses depend only on its number of members of
-//!   each class of clones (`proofs/CloneLemmas.antt`, `TiedClones.antt`). So of tied clones only the first is followed.
+//!   each class of clones (`proofs/RowLemmas.antt`, `TiedClones.antt`). So of tied clones only the first is followed.
 //!   Candidates without supporters are one class.
 //! - **Gains only fall.** If no candidate adds to a set, no candidate adds to a larger one. Then all candidates tie at
 //!   each step, and each committee above the set is reached.

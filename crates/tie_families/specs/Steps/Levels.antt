@@ -60,7 +60,7 @@ end step weights m rows set =
     then Some (fold (change step) set (ties step weights m rows set))
     else None
 
--- whom the choices that lead to a set have added to no candidates, or taken out of all
+-- the candidates whom the choices that lead to a set have added, or taken out
 abbrev pub picked : Step → ℕ → List ℕ → List ℕ
 picked Grow m set = set
 picked Shrink m set = others m set
