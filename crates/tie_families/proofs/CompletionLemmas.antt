@@ -4,46 +4,33 @@ use Rattle.std.proofs.lemmas.Grind.{common_steps}
 use Rattle.std.proofs.Common.{◌≡◌, ℕ, zero, suc, ◌+◌, ◌-◌, ◌≤◌, ◌∙◌, Bool, true, false, cond, not, ◌&&◌, ◌<◌, List, [], ◌∷◌, ◌++◌, sym, ap, subst, arith, inl, inr, filter, length, length-append, append_assoc, count_by, append-nil}
 use Rattle.std.specs.Prelude.{fold, nat_le}
 use Rattle.std.specs.List.{list_any, range_with_len}
-use Rattle.std.proofs.lemmas.Bool.{cases_Bool, cases_lt, cases_eq, both_ways, le-leb, leb-true, not-true, and_parts, and_from}
-use Rattle.std.proofs.lemmas.List.Sums.{sum_by-append}
+use Rattle.std.proofs.lemmas.Bool.{cases_Bool, cases_lt, both_ways, le-leb, leb-true, not-true, and_parts, and_from}
 use Rattle.std.proofs.Math.Bool.{and_comm}
 use Rattle.ballot_base.specs.Lists.{IsIncreasing, increasing_lists}
 use Rattle.ballot_base.specs.CandSet.{has_member, with_member}
 use Rattle.ballot_base.specs.Ballots.{Row}
 use Rattle.ballot_base.proofs.Committees.{increasing_lists-contains, chosen-from_contains}
 use Rattle.ballot_base.proofs.Increasing.{IsIncreasing-lower, IsIncreasing-higher, IsIncreasing-push, IsIncreasing-filter, IsIncreasing-with_member, has_member-above, has_member-below, has_member-filter, same_increasing, with_member-above}
+use Rattle.ballot_base.proofs.Sums.{sum-among}
+use Rattle.tie_walk.proofs.LawLemmas.{IsIncreasing-range}
 use Rattle.tie_walk.proofs.SequenceLemmas.{length-with_member}
+use Rattle.tie_walk.proofs.StepLemmas.{has_member-range}
 use Rattle.ballot_base.specs.Clones.{are_clones}
 use Rattle.tie_families.specs.Clones.{clone_count, has_as_many, is_between}
 use Rattle.tie_families.specs.Steps.Families.{may_be_in}
 use Rattle.tie_families.specs.Steps.Levels.{IsBelow}
 use Rattle.tie_families.specs.Steps.Tables.{completed, completed_by}
 use Rattle.tie_families.proofs.CloneLemmas.{clones-sameness}
-use Rattle.tie_families.proofs.Numbers.{bit, count-cons, count-class, count-parts, count-with, length-within, some-passes, some-more}
+use Rattle.tie_families.proofs.Lists.{same_tests}
+use Rattle.tie_families.proofs.Numbers.{bit, count-append, count-cons, count-class, count-parts, count-with, length-within, some-passes, some-more}
 use Rattle.tie_families.proofs.TableLemmas.{completed-with, completed-same}
 use Rattle.tie_families.proofs.WinnerLemmas.{many-from, below-from, any-from, any-at}
-
-count-append : (p : ℕ → Bool) (xs ys : List ℕ) → count_by p (xs ++ ys) ≡ count_by p xs + count_by p ys
-count-append p xs ys = sum_by-append (λ x. cond (p x) 1 0) xs ys
 
 -- a set and candidates after it
 pub joined-increasing : (c m : ℕ) (first : ℕ) (set added : List ℕ) → first ≤ c + 1 → c ≤ m → IsIncreasing first c set → IsIncreasing (c + 1) m added → IsIncreasing first m (set ++ added)
 joined-increasing c m first [] added low fits up up' = IsIncreasing-lower first (c + 1) m added low up'
 joined-increasing c m first (x ∷ set) added low fits up up' =
     (up.0, omega (arith, up.1, fits), joined-increasing c m (x + 1) set added (omega (arith, up.1)) fits up.2 up')
-
--- no more of a class than a range has
-range-most : (p : ℕ → Bool) (n first last : ℕ) (set : List ℕ) → first + n ≡ last + 1 → IsIncreasing first last set → count_by p set ≤ count_by p (range_with_len first n)
-range-most p n first last [] all up = omega arith
-range-most p zero first last (x ∷ xs) all up = absurd (omega (arith, all, up.0, up.1))
-range-most p (suc n) first last (x ∷ xs) all up = elim (cases_eq x first) [
-  | inl same ↦
-      let rest = range-most p n (first + 1) last xs (omega (arith, all)) (subst (λ k. IsIncreasing (k + 1) last xs) same up.2) in
-      omega (arith, rest, count-cons p x xs, count-cons p first (range_with_len (first + 1) n), ap (λ k. bit (p k)) same)
-  | inr other ↦
-      let rest = range-most p n (first + 1) last (x ∷ xs) (omega (arith, all)) (omega (arith, up.0, other), up.1, up.2) in
-      omega (arith, rest, count-cons p first (range_with_len (first + 1) n))
-]
 
 bounded : (first last : ℕ) (xs : List ℕ) (x : ℕ) → IsIncreasing first last xs → has_member xs x ≡ true → (first ≤ x) × (x ≤ last)
 bounded first last xs x up inside =
@@ -176,7 +163,15 @@ module _ (m : ℕ) (rows : List Row) (c : ℕ) (set : List ℕ) (left : ℕ) (fa
 
   -- a set and candidates after it have no more of a class than the set and all of them
   joined-most : (added : List ℕ) → IsIncreasing (c + 1) m added → (y : ℕ) → clone_count rows (set ++ added) y ≤ clone_count rows set y + count_by (are_clones rows y) (range_with_len (c + 1) (m - c))
-  joined-most added up' y = omega (arith, count-append (are_clones rows y) set added, range-most (are_clones rows y) (m - c) (c + 1) m added (omega (arith, within)) up')
+  joined-most added up' y =
+      let range = range_with_len (c + 1) (m - c) in
+      let lower = λ (list : List ℕ). IsIncreasing-lower 1 (c + 1) m list (omega arith) in
+      omega (
+        arith,
+        count-append (are_clones rows y) set added,
+        sum-among (λ x. cond (are_clones rows y x) 1 0) m added range (lower added up') (lower range (IsIncreasing-range (c + 1) (m - c) m (omega (arith, within))))
+            (λ n here. let bounds = bounded (c + 1) m added n up' here in has_member-range (c + 1) (m - c) n bounds.0 (omega (arith, bounds.1))),
+      )
 
   may-from : (added : List ℕ) → IsIncreasing (c + 1) m added → length added ≡ left → is_between m rows family.0 family.1 (set ++ added) ≡ true → may_be_in m rows c set left family ≡ true
   unfolding all full
@@ -237,15 +232,11 @@ module _ (m : ℕ) (rows : List Row) (c : ℕ) (set : List ℕ) (left : ℕ) (fa
   may-is =
       let test : List ℕ → Bool = λ (added : List ℕ). is_between m rows family.0 family.1 (set ++ added) in
       let lists = increasing_lists (c + 1) m left in
-      elim (cases_Bool (may_be_in m rows c set left family)) [
-        | inl may ↦
-            let some = may-to may in
-            may ∙ sym (any-from test lists some.0 (increasing_lists-contains (c + 1) m left some.0 (some.1, some.2)) some.3)
-        | inr never ↦ elim (cases_Bool (list_any test lists)) [
-          | inl any ↦
-              let some = any-at test lists any in
-              let chosen = chosen-from_contains (c + 1) m left some.0 some.1 in
-              absurd (both_ways (may_be_in m rows c set left family) never (may-from some.0 chosen.0 chosen.1 some.2))
-          | inr none ↦ never ∙ sym none
-        ]
-      ]
+      same_tests (may_be_in m rows c set left family) (list_any test lists)
+      (λ may.
+      let some = may-to may in
+      any-from test lists some.0 (increasing_lists-contains (c + 1) m left some.0 (some.1, some.2)) some.3)
+      (λ any.
+      let some = any-at test lists any in
+      let chosen = chosen-from_contains (c + 1) m left some.0 some.1 in
+      may-from some.0 chosen.0 chosen.1 some.2)

@@ -1,31 +1,30 @@
 -- Some sequence of choices makes a committee: at each set somebody ties for the best.
-use Rattle.std.proofs.lemmas.Grind.{common_steps}
-use Rattle.std.proofs.Common.{◌≡◌, ℕ, zero, suc, ◌+◌, ◌-◌, ◌<◌, ◌≤◌, ◌==◌, ◌∙◌, Bool, true, false, cond, List, [], ◌∷◌, refl, sym, ap, subst, arith, inl, inr, ◌⊎◌, length}
-use Rattle.std.specs.List.{range_with_len, AllByRecursion}
-use Rattle.std.proofs.lemmas.Bool.{cases_lt, cases_eq, le-leb, leb-true, and_from}
-use Rattle.std.proofs.lemmas.List.FromFn.{length-range_with_len}
+use Rattle.std.proofs.Common.{◌≡◌, ℕ, zero, suc, ◌+◌, ◌≤◌, ◌==◌, ◌∙◌, Bool, true, false, cond, List, [], ◌∷◌, refl, sym, ap, subst, arith, inl, inr, ◌⊎◌, length}
+use Rattle.std.proofs.lemmas.Bool.{cases_lt, cases_eq, le-leb, or_right}
 use Rattle.ballot_base.specs.Lists.{IsIncreasing, increasing_lists}
 use Rattle.ballot_base.specs.CandSet.{has_member}
 use Rattle.ballot_base.specs.Ballots.{Row, Election}
 use Rattle.ballot_base.proofs.Committees.{increasing_lists-contains}
 use Rattle.ballot_base.proofs.Increasing.{has_member_head, has_member_tail}
-use Rattle.tie_walk.specs.Sequences.{hit_weights, others, is_sequential_winner, sequential_winners}
-use Rattle.tie_walk.specs.Steps.Choices.{change, worth, is_no_better, open_candidates, is_choice, start}
+use Rattle.tie_walk.specs.Sequences.{hit_weights, is_sequential_winner, sequential_winners}
+use Rattle.tie_walk.specs.Steps.Choices.{step_of, choices_of, change, worth, is_no_better, open_candidates, is_choice, start}
 use Rattle.tie_walk.specs.Winners.{best_value, winners}
 use Rattle.tie_walk.specs.declared.sequential.SeqRule.{SeqRule}
 use Rattle.tie_walk.specs.declared.sequential.SeqRule.TheVariants.{SeqPav, SeqCc, RevSeqPav}
 use Rattle.tie_walk.specs.declared.sequential.Step.{Step}
 use Rattle.tie_walk.specs.declared.sequential.Step.TheVariants.{Grow, Shrink}
 use Rattle.tie_walk.proofs.HitWeights.{one-most}
-use Rattle.tie_walk.proofs.Choices.{reached_none, reached_more, made_from_reached}
+use Rattle.tie_walk.proofs.Choices.{reached_none, reached_more}
 use Rattle.tie_walk.proofs.LawLemmas.{no_greater_value}
-use Rattle.tie_walk.proofs.LevelLemmas.{followed-candidates, reached-increasing}
-use Rattle.tie_walk.proofs.SequenceLemmas.{IsSized, grown_set-made, left_set-made, reached-sized}
+use Rattle.tie_walk.proofs.LevelLemmas.{reached-increasing}
 use Rattle.tie_walk.proofs.WinnersLemmas.{greatest-most, same_filter, winners-best}
 use Rattle.tie_families.specs.Families.{Sequential, is_winner}
 use Rattle.tie_families.specs.Steps.Levels.{IsReachedBy}
-use Rattle.tie_families.proofs.Lists.{members-of, count-others, all-from}
-use Rattle.tie_families.proofs.Numbers.{length-sum}
+use Rattle.tie_families.proofs.Lists.{all-pass}
+use Rattle.tie_families.proofs.LevelLemmas.{reached-chosen}
+use Rattle.tie_families.proofs.Picked.{chosen-open}
+use Rattle.tie_families.proofs.TiedClones.{no_better-joined, choice-from}
+use Rattle.tie_families.proofs.WinnerLemmas.{rule-size, reached-wins}
 
 -- ---- one of those that nobody is better than
 
@@ -33,120 +32,67 @@ no_better-total : (step : Step) (x y : ℕ) → (is_no_better step x y ≡ true)
 no_better-total Grow x y = elim (cases_lt x y) [ inl less ↦ inl (le-leb x y (omega (arith, less))) | inr more ↦ inr (le-leb y x more) ]
 no_better-total Shrink x y = elim (cases_lt x y) [ inl less ↦ inr (le-leb x y (omega (arith, less))) | inr more ↦ inl (le-leb y x more) ]
 
-no_better-joined : (step : Step) (x y z : ℕ) → is_no_better step x y ≡ true → is_no_better step y z ≡ true → is_no_better step x z ≡ true
-no_better-joined Grow x y z xy yz = le-leb x z (omega (arith, leb-true x y xy, leb-true y z yz))
-no_better-joined Shrink x y z xy yz = le-leb z x (omega (arith, leb-true y x xy, leb-true z y yz))
-
 no_better-itself : (step : Step) (x : ℕ) → is_no_better step x x ≡ true
 no_better-itself Grow x = le-leb x x (omega arith)
 no_better-itself Shrink x = le-leb x x (omega arith)
 
+at-each : (P : ℕ → Type 0) (x : ℕ) (xs : List ℕ) → P x → ((d : ℕ) → has_member xs d ≡ true → P d) → (d : ℕ) → has_member (x ∷ xs) d ≡ true → P d
+at-each P x xs here rest d inside = elim (cases_eq x d) [
+  | inl same ↦ subst P same here
+  | inr other ↦ rest d (sym (has_member_tail x d xs other) ∙ inside)
+]
+
 some-best : (step : Step) (w : ℕ → ℕ) (x : ℕ) (xs : List ℕ) → (c : ℕ) × (has_member (x ∷ xs) c ≡ true) × ((d : ℕ) → has_member (x ∷ xs) d ≡ true → is_no_better step (w d) (w c) ≡ true)
-some-best step w x [] = (
-  x,
-  has_member_head x [],
-  λ d inside. elim (cases_eq x d) [
-    | inl same ↦ subst (λ k. is_no_better step (w k) (w x) ≡ true) same (no_better-itself step (w x))
-    | inr other ↦ absurd (let e : false ≡ true = sym (has_member_tail x d [] other) ∙ inside in cc)
-  ],
-)
+some-best step w x [] =
+    (x, has_member_head x [], at-each (λ d. is_no_better step (w d) (w x) ≡ true) x [] (no_better-itself step (w x)) (λ d inside. absurd (let e : false ≡ true = inside in cc)))
 some-best step w x (y ∷ ys) =
     let rest = some-best step w y ys in
     elim (no_better-total step (w x) (w rest.0)) [
-      | inl fine ↦ (
-        rest.0,
-        later rest.0 rest.1,
-        λ d inside. elim (cases_eq x d) [
-          | inl same ↦ subst (λ k. is_no_better step (w k) (w rest.0) ≡ true) same fine
-          | inr other ↦ rest.2 d (sym (has_member_tail x d (y ∷ ys) other) ∙ inside)
-        ],
-      )
+      | inl fine ↦ (rest.0, or_right (x == rest.0) (has_member (y ∷ ys) rest.0) rest.1, at-each (λ d. is_no_better step (w d) (w rest.0) ≡ true) x (y ∷ ys) fine rest.2)
       | inr more ↦ (
         x,
         has_member_head x (y ∷ ys),
-        λ d inside. elim (cases_eq x d) [
-          | inl same ↦ subst (λ k. is_no_better step (w k) (w x) ≡ true) same (no_better-itself step (w x))
-          | inr other ↦ no_better-joined step (w d) (w rest.0) (w x) (rest.2 d (sym (has_member_tail x d (y ∷ ys) other) ∙ inside)) more
-        ],
+        at-each (λ d. is_no_better step (w d) (w x) ≡ true) x (y ∷ ys) (no_better-itself step (w x)) (λ d inside. no_better-joined step (w d) (w rest.0) (w x) (rest.2 d inside) more),
       )
     ]
-  where
-    later : (c : ℕ) → has_member (y ∷ ys) c ≡ true → has_member (x ∷ y ∷ ys) c ≡ true
-    later c inside = grind (arith, common_steps, cases_eq, has_member_head, has_member_tail)
 
 -- ---- somebody is free as long as choices are left
-
-some-free : (step : Step) (m size : ℕ) (set : List ℕ) → IsIncreasing 1 m set → IsSized step m size set → size < m → 1 ≤ length (open_candidates step m set)
-some-free Grow m size set up sized more =
-    omega (
-      arith,
-      count-others (λ (x : ℕ). true) m set up,
-      length-sum set,
-      length-sum (others m set),
-      length-sum (range_with_len 1 m),
-      length-range_with_len 1 m,
-    )
-some-free Shrink m size set up sized more = omega (arith, ap length (members-of m set up), sized, more)
 
 module _ (step : Step) (weights : List ℕ) (m : ℕ) (rows : List Row) where
   choice-of : (set all : List ℕ) → all ≡ open_candidates step m set → 1 ≤ length all → (c : ℕ) × (is_choice step weights m rows set c ≡ true)
   choice-of set [] is some = absurd (omega (arith, some))
   choice-of set (x ∷ xs) is some =
       let best = some-best step (worth step weights rows set) x xs in
-      (best.0, tied best.0 (ap (λ l. has_member l best.0) (sym is) ∙ best.1) (λ d inside. best.2 d (ap (λ l. has_member l d) is ∙ inside)))
-    where
-      tied : (c : ℕ) → has_member (open_candidates step m set) c ≡ true
-          → ((d : ℕ) → has_member (open_candidates step m set) d ≡ true → is_no_better step (worth step weights rows set d) (worth step weights rows set c) ≡ true)
-          → is_choice step weights m rows set c ≡ true
-      tied c free each = grind (arith, common_steps, and_from, all-from)
+      (best.0, choice-from step weights m rows set best.0 (ap (λ l. has_member l best.0) (sym is) ∙ best.1) (λ d inside. best.2 d (ap (λ l. has_member l d) is ∙ inside)))
 
   some-reached : (size : ℕ) → size ≤ m → (set : List ℕ) × IsReachedBy step weights m rows size set
   some-reached zero fits = (start step m, reached_none (is_choice step weights m rows) (change step) (start step m))
   some-reached (suc size) fits =
       let old = some-reached size (omega (arith, fits)) in
       let up = reached-increasing step weights m rows size old.0 old.1 in
-      let c = choice-of old.0 (open_candidates step m old.0) refl (some-free step m size old.0 up (reached-sized step weights m rows size old.0 old.1) (omega (arith, fits))) in
+      let c = choice-of old.0 (open_candidates step m old.0) refl (omega (arith, fits, chosen-open step m old.0 up, reached-chosen step weights m rows size old.0 old.1)) in
       let next : size + 1 ≡ suc size = omega arith in
       (change step old.0 c.0, subst (λ n. IsReachedBy step weights m rows n (change step old.0 c.0)) next (reached_more (is_choice step weights m rows) (change step) (start step m) size old.0 c.0 old.1 c.1))
 
 -- ---- some committee wins
 
 pub some-wins : (rule : SeqRule) (e : Election) (k : ℕ) → k ≤ e.m → (set : List ℕ) × (is_sequential_winner rule e k set ≡ true) × IsIncreasing 1 e.m set × (length set ≡ k)
-some-wins SeqPav e k fits =
-    let w = hit_weights SeqPav e.m in
-    let s = some-reached Grow w e.m e.rows k fits in (
-      s.0,
-      grown_set-made w e.m e.rows k s.0 ∙ made_from_reached (is_choice Grow w e.m e.rows) (change Grow) e.m (start Grow e.m) k s.0 s.1 (followed-candidates Grow w e.m e.rows (start Grow e.m) s.1.list s.1.made),
-      reached-increasing Grow w e.m e.rows k s.0 s.1,
-      reached-sized Grow w e.m e.rows k s.0 s.1,
-    )
-some-wins SeqCc e k fits =
-    let w = hit_weights SeqCc e.m in
-    let s = some-reached Grow w e.m e.rows k fits in (
-      s.0,
-      grown_set-made w e.m e.rows k s.0 ∙ made_from_reached (is_choice Grow w e.m e.rows) (change Grow) e.m (start Grow e.m) k s.0 s.1 (followed-candidates Grow w e.m e.rows (start Grow e.m) s.1.list s.1.made),
-      reached-increasing Grow w e.m e.rows k s.0 s.1,
-      reached-sized Grow w e.m e.rows k s.0 s.1,
-    )
-some-wins RevSeqPav e k fits =
-    let w = hit_weights RevSeqPav e.m in
-    let s = some-reached Shrink w e.m e.rows (e.m - k) (omega arith) in
-    let sized = reached-sized Shrink w e.m e.rows (e.m - k) s.0 s.1 in (
-      s.0,
-      left_set-made w e.m e.rows k s.0 ∙ made_from_reached (is_choice Shrink w e.m e.rows) (change Shrink) e.m (start Shrink e.m) (e.m - k) s.0 s.1 (followed-candidates Shrink w e.m e.rows (start Shrink e.m) s.1.list s.1.made),
-      reached-increasing Shrink w e.m e.rows (e.m - k) s.0 s.1,
-      omega (arith, sized, fits),
-    )
+some-wins rule e k fits =
+    let size = choices_of rule e.m k in
+    let s = some-reached (step_of rule) (hit_weights rule e.m) e.m e.rows size (most rule) in
+    let up = reached-increasing (step_of rule) (hit_weights rule e.m) e.m e.rows size s.0 s.1 in
+    (s.0, reached-wins rule e k s.0 s.1, up, (rule-size rule e.m k s.0 fits up).1 (reached-chosen (step_of rule) (hit_weights rule e.m) e.m e.rows size s.0 s.1))
+  where
+    most : (r : SeqRule) → choices_of r e.m k ≤ e.m
+    most SeqPav = fits
+    most SeqCc = fits
+    most RevSeqPav = omega arith
 
 -- ---- the winners of the values are those of the rule
 
 bit-is : (b : Bool) → (cond b 1 0 == 1) ≡ b
 bit-is true = refl
 bit-is false = refl
-
-all-pass : (P : List ℕ → Type 0) (xs : List (List ℕ)) → ((x : List ℕ) → P x) → AllByRecursion P xs
-all-pass P [] each = tt
-all-pass P (x ∷ xs) each = (each x, all-pass P xs each)
 
 pub winners-are : (s : Sequential) → s.k ≤ s.election.m → winners (λ w. cond (is_winner s w) 1 0) s.election.m s.k ≡ sequential_winners s.rule s.election s.k
 winners-are s fits =

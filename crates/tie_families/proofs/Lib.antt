@@ -7,6 +7,7 @@ pub mod LevelLemmas
 pub mod Lists
 pub mod Numbers
 pub mod PairLemmas
+pub mod Picked
 pub mod PlainLemmas
 pub mod RowLemmas
 pub mod SpanLemmas

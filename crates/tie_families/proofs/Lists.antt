@@ -1,8 +1,8 @@
 -- Members of lists, of filters and of sets.
 use Rattle.std.proofs.lemmas.Grind.{common_steps}
-use Rattle.std.proofs.Common.{◌≡◌, ℕ, zero, suc, ◌+◌, ◌-◌, ◌≤◌, ◌==◌, ◌&&◌, ◌||◌, ◌∙◌, Bool, true, false, not, List, [], ◌∷◌, refl, sym, ap, arith, inl, inr, filter, count_by, Contains}
-use Rattle.std.specs.List.{list_all, range_with_len}
-use Rattle.std.proofs.lemmas.Bool.{cases_Bool, cases_eq, and_parts, and_from, and_left, both_ways, not-true, eq-eqb, ne_eqb, or_right, or_left, not_from_true}
+use Rattle.std.proofs.Common.{◌≡◌, ℕ, zero, suc, ◌+◌, ◌≤◌, ◌==◌, ◌&&◌, ◌||◌, ◌∙◌, Bool, true, false, not, List, [], ◌∷◌, refl, sym, ap, arith, inl, inr, filter, count_by, Contains}
+use Rattle.std.specs.List.{list_all, range_with_len, AllByRecursion}
+use Rattle.std.proofs.lemmas.Bool.{cases_Bool, cases_eq, and_parts, and_from, and_left, both_ways, not-true, eq-eqb, ne_eqb, or_left, not_from_true}
 use Rattle.ballot_base.specs.Lists.{IsIncreasing}
 pub use Rattle.ballot_base.proofs.Included.{all-at, all-from}
 use Rattle.ballot_base.specs.CandSet.{has_member, other_members, with_member, without_member}
@@ -14,17 +14,14 @@ use Rattle.tie_walk.proofs.LawLemmas.{IsIncreasing-range}
 use Rattle.tie_walk.proofs.LevelLemmas.{in_bounds}
 use Rattle.tie_walk.proofs.StepLemmas.{has_member-range}
 use Rattle.tie_families.proofs.Numbers.{count-parts}
+pub use Rattle.tie_families.proofs.Numbers.{some-fails}
 
 -- ---- what is true of all
 
-pub some-fails : (p : ℕ → Bool) (xs : List ℕ) → list_all p xs ≡ false → (x : ℕ) × (has_member xs x ≡ true) × (p x ≡ false)
-some-fails p [] fails = absurd (let e : true ≡ false = fails in cc)
-some-fails p (y ∷ xs) fails = elim (cases_Bool (p y)) [
-  | inr here ↦ (y, has_member_head y xs, here)
-  | inl passes ↦
-      let rest = some-fails p xs (ap (λ b. b && list_all p xs) (sym passes) ∙ fails) in
-      (rest.0, or_right (y == rest.0) (has_member xs rest.0) rest.1, rest.2)
-]
+pub same_tests : (a b : Bool) → (a ≡ true → b ≡ true) → (b ≡ true → a ≡ true) → a ≡ b
+same_tests true b to from = sym (to refl)
+same_tests false true to from = from refl
+same_tests false false to from = refl
 
 pub all-fails : (p : ℕ → Bool) (xs : List ℕ) (x : ℕ) → has_member xs x ≡ true → p x ≡ false → list_all p xs ≡ false
 all-fails p xs x inside fails = elim (cases_Bool (list_all p xs)) [
@@ -32,14 +29,12 @@ all-fails p xs x inside fails = elim (cases_Bool (list_all p xs)) [
   | inr some ↦ some
 ]
 
--- a number more
-pub all-next : (p : ℕ → Bool) (c : ℕ) → 1 ≤ c → list_all p (range_with_len 1 (c - 1)) ≡ true → p c ≡ true → list_all p (range_with_len 1 (c + 1 - 1)) ≡ true
-all-next p c low all here = all-from p (range_with_len 1 (c + 1 - 1)) (λ x inside.
-    let bounds = in_bounds c (range_with_len 1 (c + 1 - 1)) x (IsIncreasing-range 1 (c + 1 - 1) c (omega (arith, low))) inside in
-    elim (cases_eq x c) [
-      | inl same ↦ ap p same ∙ here
-      | inr other ↦ all-at p (range_with_len 1 (c - 1)) x all (has_member-range 1 (c - 1) x bounds.0 (omega (arith, bounds.1, other)))
-    ])
+pub all-pass : {X : Type 0} (P : X → Type 0) (xs : List X) → ((x : X) → P x) → AllByRecursion P xs
+all-pass P [] each = tt
+all-pass P (x ∷ xs) each = (each x, all-pass P xs each)
+
+pub all-range : (p : ℕ → Bool) (m : ℕ) → ((c : ℕ) → 1 ≤ c → c ≤ m → p c ≡ true) → list_all p (range_with_len 1 m) ≡ true
+all-range p m each = all-from p (range_with_len 1 m) (λ c inside. let bounds = in_bounds m (range_with_len 1 m) c (IsIncreasing-range 1 m m (omega arith)) inside in each c bounds.0 bounds.1)
 
 -- ---- where a list of lists has a set from
 

@@ -1,12 +1,15 @@
 -- Lists of candidates of several classes: how many there are of each class decides every sum in which the candidates of
 -- a class count alike.
 use Rattle.std.proofs.lemmas.Grind.{common_steps}
-use Rattle.std.proofs.Common.{◌≡◌, ℕ, ◌+◌, ◌<◌, ◌≤◌, ◌==◌, ◌∙◌, Bool, true, false, cond, not, List, [], ◌∷◌, ◌++◌, refl, sym, ap, subst, arith, inl, inr, ◌⊎◌, filter, length, sum_by, count_by}
-use Rattle.std.specs.List.{AllByRecursion}
-use Rattle.std.proofs.lemmas.Bool.{cases_Bool, cases_lt, cases_eq, cases_order, both_ways, ne_eqb, or_right}
-use Rattle.std.proofs.lemmas.List.Sums.{sum_by-cons, sum_by-append}
+use Rattle.std.proofs.Common.{◌≡◌, ℕ, ◌+◌, ◌<◌, ◌≤◌, ◌==◌, ◌&&◌, ◌∙◌, Bool, true, false, cond, not, List, [], ◌∷◌, ◌++◌, refl, sym, ap, subst, arith, inl, inr, filter, length, sum_by, count_by}
+use Rattle.std.specs.List.{list_all}
+use Rattle.std.specs.Prelude.{nat_le}
+use Rattle.std.proofs.lemmas.Bool.{cases_Bool, cases_lt, cases_eq, cases_order, both_ways, ne_eqb, or_right, leb-true, leb-false}
+use Rattle.std.proofs.lemmas.List.Filters.{length-filter_both, sum_by-filter_both}
+use Rattle.std.proofs.lemmas.List.Sums.{sum_by-cons, sum_by-append, length-filter}
 use Rattle.ballot_base.specs.Lists.{IsIncreasing}
 use Rattle.ballot_base.specs.CandSet.{has_member, with_member, without_member}
+use Rattle.ballot_base.proofs.Included.{all-at}
 use Rattle.ballot_base.proofs.FirstMember.{without_member_head}
 use Rattle.ballot_base.proofs.Increasing.{has_member_head, has_member_tail, with_member-lt, with_member-gt}
 
@@ -30,6 +33,9 @@ pub record IsSplit (p : ℕ → Bool) (xs : List ℕ) : Type 0 where
 
 pub count-cons : (p : ℕ → Bool) (x : ℕ) (xs : List ℕ) → count_by p (x ∷ xs) ≡ bit (p x) + count_by p xs
 count-cons p x xs = sum_by-cons (λ y. cond (p y) 1 0) x xs
+
+pub count-append : (p : ℕ → Bool) (xs ys : List ℕ) → count_by p (xs ++ ys) ≡ count_by p xs + count_by p ys
+count-append p xs ys = sum_by-append (λ x. cond (p x) 1 0) xs ys
 
 pub split : (p : ℕ → Bool) (xs : List ℕ) → 1 ≤ count_by p xs → IsSplit p xs
 split p [] some = absurd (omega arith)
@@ -65,16 +71,10 @@ length-sum [] = refl
 length-sum (x ∷ xs) = omega (arith, sum_by-cons (λ (y : ℕ). 1) x xs, length-sum xs)
 
 pub count-both : (p : ℕ → Bool) (xs : List ℕ) → count_by p xs + count_by (λ x. not (p x)) xs ≡ length xs
-count-both p [] = refl
-count-both p (x ∷ xs) = omega (arith, count-cons p x xs, count-cons (λ y. not (p y)) x xs, count-both p xs, bits (p x))
-  where
-    bits : (b : Bool) → bit b + bit (not b) ≡ 1
-    bits true = refl
-    bits false = refl
+count-both p xs = omega (arith, length-filter_both p (λ x. not (p x)) (λ x. refl) xs, length-filter p xs, length-filter (λ x. not (p x)) xs)
 
 pub count-parts : (p q : ℕ → Bool) (xs : List ℕ) → count_by p (filter q xs) + count_by p (filter (λ x. not (q x)) xs) ≡ count_by p xs
-count-parts p q [] = refl
-count-parts p q (x ∷ xs) = grind (arith, common_steps, count-parts p q xs, count_by, filter, not, count-cons)
+count-parts p q xs = sum_by-filter_both q (λ x. not (q x)) (λ x. refl) (λ x. cond (p x) 1 0) xs
 
 pub count-same : (p q : ℕ → Bool) (xs : List ℕ) → ((x : ℕ) → p x ≡ q x) → count_by p xs ≡ count_by q xs
 count-same p q [] same = refl
@@ -104,6 +104,15 @@ count-without p first last (x ∷ xs) n up inside = elim (cases_eq x n) [
       let rest : has_member xs n ≡ true = sym (has_member_tail x n xs other) ∙ inside in
       let kept : without_member (x ∷ xs) n ≡ x ∷ without_member xs n = ap (λ b. cond (not b) (x ∷ without_member xs n) (without_member xs n)) (ne_eqb x n other) in
       omega (arith, ap (count_by p) kept, count-cons p x (without_member xs n), count-cons p x xs, count-without p (x + 1) last xs n up.2 rest)
+]
+
+pub some-fails : (p : ℕ → Bool) (xs : List ℕ) → list_all p xs ≡ false → (x : ℕ) × (has_member xs x ≡ true) × (p x ≡ false)
+some-fails p [] fails = absurd (let e : true ≡ false = fails in cc)
+some-fails p (y ∷ xs) fails = elim (cases_Bool (p y)) [
+  | inr here ↦ (y, has_member_head y xs, here)
+  | inl passes ↦
+      let rest = some-fails p xs (ap (λ b. b && list_all p xs) (sym passes) ∙ fails) in
+      (rest.0, or_right (y == rest.0) (has_member xs rest.0) rest.1, rest.2)
 ]
 
 -- ---- as many of each class
@@ -153,28 +162,18 @@ module _ (same : ℕ → ℕ → Bool) (sameness : IsSameness same) where
   pub within-turned : (xs ys : List ℕ) → IsWithin xs ys → length ys ≤ length xs → IsWithin ys xs
   within-turned xs ys within most c = grind (arith, common_steps, count-both, sums-within, not, same-right)
 
-  search-less : (xs ys among : List ℕ) → ((y : ℕ) × (has_member among y ≡ true) × (count_by (same y) xs < count_by (same y) ys)) ⊎ AllByRecursion (λ y. count_by (same y) ys ≤ count_by (same y) xs) among
-  search-less xs ys [] = inr tt
-  search-less xs ys (y ∷ among) =
-      grind (arith, common_steps, search-less xs ys among, cases_lt, count_by, has_member_head, or_right)
-
-  pub at_member : (P : ℕ → Type 0) (xs : List ℕ) (x : ℕ) → AllByRecursion P xs → has_member xs x ≡ true → P x
-  at_member P [] x all inside = absurd (let e : false ≡ true = inside in cc)
-  at_member P (y ∷ xs) x all inside = elim (cases_eq y x) [
-    | inl is ↦ subst P is all.0
-    | inr other ↦ at_member P xs x all.1 (sym (has_member_tail y x xs other) ∙ inside)
-  ]
-
   -- of a longer list there are more of some class
   pub some-more : (xs ys : List ℕ) → length xs < length ys → (y : ℕ) × (has_member ys y ≡ true) × (count_by (same y) xs < count_by (same y) ys)
-  some-more xs ys longer = elim (search-less xs ys ys) [
-    | inl some ↦ some
-    | inr all ↦
-        let within : IsWithin ys xs = λ c. elim (cases_lt (count_by (same c) xs) (count_by (same c) ys)) [
-          | inl less ↦
-              let y = some-passes (same c) ys (omega (arith, less)) in
-              omega (arith, at_member (λ x. count_by (same x) ys ≤ count_by (same x) xs) ys y.0 all y.1, count-class c y.0 xs y.2, count-class c y.0 ys y.2)
-          | inr enough ↦ enough
-        ] in
-        absurd (omega (arith, longer, length-within ys xs within))
-  ]
+  some-more xs ys longer =
+      let test : ℕ → Bool = λ (y : ℕ). nat_le (count_by (same y) ys) (count_by (same y) xs) in
+      elim (cases_Bool (list_all test ys)) [
+        | inl all ↦
+            let within : IsWithin ys xs = λ c. elim (cases_lt (count_by (same c) xs) (count_by (same c) ys)) [
+              | inl less ↦
+                  let y = some-passes (same c) ys (omega (arith, less)) in
+                  omega (arith, leb-true (count_by (same y.0) ys) (count_by (same y.0) xs) (all-at test ys y.0 all y.1), count-class c y.0 xs y.2, count-class c y.0 ys y.2)
+              | inr enough ↦ enough
+            ] in
+            absurd (omega (arith, longer, length-within ys xs within))
+        | inr some ↦ let y = some-fails test ys some in (y.0, y.1, leb-false (count_by (same y.0) ys) (count_by (same y.0) xs) y.2)
+      ]

@@ -1,9 +1,9 @@
 -- Families without clones: where each has k members, they are the winners.
 use Rattle.std.proofs.lemmas.Grind.{common_steps}
-use Rattle.std.proofs.Common.{◌≡◌, ℕ, ◌<◌, ◌≤◌, ◌==◌, ◌&&◌, ◌∙◌, true, List, [], ◌∷◌, sym, ap, subst, arith, inl, inr, length, get_or, Contains, Option, None, Some}
+use Rattle.std.proofs.Common.{◌≡◌, ℕ, ◌<◌, ◌≤◌, ◌==◌, ◌&&◌, ◌∙◌, true, List, [], ◌∷◌, sym, ap, subst, arith, length, get_or, Contains, Option, None, Some}
 use Rattle.std.specs.Prelude.{All, MatchOption, ⊤}
 use Rattle.std.specs.List.{list_all, list_any, range_with_len, zip, AllByRecursion}
-use Rattle.std.proofs.lemmas.Bool.{cases_Bool, cases_eq, eqb-true, both_ways, and_parts, and_from}
+use Rattle.std.proofs.lemmas.Bool.{cases_eq, eqb-true, and_parts, and_from}
 use Rattle.std.proofs.lemmas.Cmp.{nat_list_cmp_total}
 use Rattle.std.proofs.lemmas.List.{get_or_default}
 use Rattle.std.proofs.lemmas.List.Elements.{All-contains, All-from_recursion}
@@ -23,10 +23,11 @@ use Rattle.tie_walk.proofs.SequenceLemmas.{same_sorted}
 use Rattle.tie_walk.proofs.StepLemmas.{has_member-range}
 use Rattle.ballot_base.specs.Clones.{are_clones, clones_among}
 use Rattle.tie_families.specs.Clones.{has_as_many, is_between}
-use Rattle.tie_families.specs.Steps.Families.{AreApart}
+use Rattle.tie_families.specs.Steps.Families.{are_apart}
 use Rattle.tie_families.specs.Steps.Levels.{IsBelow, AreFamilies}
 use Rattle.ballot_base.specs.Clones.{AreClones}
 use Rattle.tie_families.proofs.CloneLemmas.{clones-sameness}
+use Rattle.tie_families.proofs.Lists.{all-at, same_tests}
 use Rattle.tie_families.proofs.Numbers.{some-passes, member-counts, within-turned}
 use Rattle.tie_families.proofs.PairLemmas.{pairs-first, pairs-pass}
 use Rattle.tie_families.proofs.WinnerLemmas.{many-from, below-from, any-at}
@@ -40,10 +41,10 @@ only-one (x ∷ []) c d one inside inside' = sym (same x c inside) ∙ same x d 
     same y e is = grind (arith, common_steps, cases_eq, has_member_tail)
 only-one (x ∷ y ∷ xs) c d one inside inside' = absurd (omega (arith, one))
 
-module _ (m : ℕ) (rows : List Row) (table : List (List ℕ)) (clones : AreClones m rows table) (apart : AreApart m table) where
+module _ (m : ℕ) (rows : List Row) (table : List (List ℕ)) (clones : AreClones m rows table) (apart : are_apart m table ≡ true) where
   no-clones : (c d : ℕ) → (1 ≤ c) × (c ≤ m) → (1 ≤ d) × (d ≤ m) → are_clones rows c d ≡ true → c ≡ d
   no-clones c d low high cd =
-      let one : length (clones_among m rows c) ≡ 1 = ap length (sym (clones c low.0 low.1)) ∙ apart c low.0 low.1 in
+      let one : length (clones_among m rows c) ≡ 1 = ap length (sym (clones c low.0 low.1)) ∙ eqb-true (length (get_or table c [])) 1 (all-at (λ d. length (get_or table d []) == 1) (range_with_len 1 m) c apart (has_member-range 1 m c low.0 (omega (arith, low.1)))) in
       only-one (clones_among m rows c) c d one (among c c low ((clones-sameness rows).itself c)) (among c d high cd)
     where
       among : (a b : ℕ) → (1 ≤ b) × (b ≤ m) → are_clones rows a b ≡ true → has_member (clones_among m rows a) b ≡ true
@@ -60,19 +61,13 @@ module _ (m : ℕ) (rows : List Row) (table : List (List ℕ)) (clones : AreClon
   same-set : (set other : List ℕ) → IsIncreasing 1 m set → IsIncreasing 1 m other → IsBelow rows set other → length set ≡ length other → set ≡ other
   same-set set other up up' below size =
       let above = within-turned (are_clones rows) (clones-sameness rows) set other below (omega (arith, size)) in
-      same_increasing 1 m set other up up' (λ n. elim (cases_Bool (has_member set n)) [
-        | inl here ↦ here ∙ sym (member-of set other up up' below n here)
-        | inr none ↦ elim (cases_Bool (has_member other n)) [
-          | inl there ↦ absurd (both_ways (has_member set n) none (member-of other set up' up above n there))
-          | inr neither ↦ none ∙ sym neither
-        ]
-      ])
+      same_increasing 1 m set other up up' (λ n. same_tests (has_member set n) (has_member other n) (member-of set other up up' below n) (member-of other set up' up above n))
 
 pub plain-winners : (rule : SeqRule) (e : Election) (k m : ℕ) (table leasts mosts list : List (List ℕ)) → m ≡ e.m → list ≡ leasts → AreFamilies rule e k leasts mosts → AreClones e.m e.rows table
-    → AreApart m table → list_all (λ set. length set == k) leasts ≡ true → list ≡ sequential_winners rule e k
+    → are_apart m table ≡ true → list_all (λ set. length set == k) leasts ≡ true → list ≡ sequential_winners rule e k
 plain-winners rule e k m table leasts mosts list is same families clones apart' sizes' =
     let all = increasing_lists 1 e.m k in
-    let apart : AreApart e.m table = subst (λ n. AreApart n table) is apart' in
+    let apart : are_apart e.m table ≡ true = subst (λ n. are_apart n table ≡ true) is apart' in
     let sizes : AllByRecursion (λ set. length set ≡ k) leasts = each leasts sizes' in
     let size = λ (set : List ℕ) (inside : Contains leasts set). All-contains (λ s. length s ≡ k) leasts set (All-from_recursion (λ s. length s ≡ k) leasts sizes) inside in
     let up = λ (set : List ℕ) (inside : Contains leasts set). All-contains (λ s. IsIncreasing 1 e.m s) leasts set (All-from_recursion (λ s. IsIncreasing 1 e.m s) leasts families.least_sets) inside in

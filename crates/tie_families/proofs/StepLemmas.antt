@@ -1,14 +1,13 @@
 -- What one choice does to a family, as the code finds it.
 use Rattle.std.proofs.lemmas.Grind.{common_steps}
-use Rattle.std.proofs.Common.{◌≡◌, ℕ, zero, suc, ◌+◌, ◌-◌, ◌<◌, ◌≤◌, ◌^◌, ◌==◌, ◌&&◌, ◌++◌, ◌∙◌, cond, length, Option, Some, None, is_some, slice_get, subst, Bool, true, false, List, [], ◌∷◌, refl, sym, ap, arith, inl, inr, filter, map, get_or, append_assoc}
+use Rattle.std.proofs.Common.{◌≡◌, ℕ, ◌+◌, ◌-◌, ◌<◌, ◌≤◌, ◌^◌, ◌==◌, ◌&&◌, ◌++◌, ◌∙◌, cond, length, Some, None, subst, Bool, true, List, [], ◌∷◌, refl, sym, ap, arith, inl, inr, filter, map, get_or, append_assoc}
 use Rattle.std.specs.Prelude.{fold, nat_le, nat_lt}
 use Rattle.std.specs.List.{list_all, range_with_len}
-use Rattle.std.proofs.lemmas.Bool.{cases_Bool, and_left, and_from, le-leb}
+use Rattle.std.proofs.lemmas.Bool.{cases_Bool, and_left}
 use Rattle.std.proofs.Math.Bool.{and_assoc, and-true}
-use Rattle.ballot_base.specs.Lists.{IsIncreasing}
 use Rattle.ballot_base.specs.CandSet.{has_member, with_member}
 use Rattle.ballot_base.specs.Ballots.{Row}
-use Rattle.ballot_base.proofs.Increasing.{IsIncreasing-filter, IsIncreasing-lower, has_member-filter, with_member-above}
+use Rattle.ballot_base.proofs.Increasing.{IsIncreasing-filter, has_member-filter, with_member-above}
 use Rattle.ballot_base.proofs.ListLemmas.{all_range, list_all-same}
 use Rattle.tie_walk.proofs.LawLemmas.{IsIncreasing-range}
 use Rattle.tie_walk.specs.Sequences.{gain, others}
@@ -19,7 +18,7 @@ use Rattle.tie_walk.proofs.FoundLemmas.{found-more}
 use Rattle.tie_walk.proofs.StepLemmas.{best-is, filter-next, has_member-range}
 use Rattle.tie_walk.proofs.WinnersLemmas.{greatest, bounds-greatest, same_filter}
 use Rattle.ballot_base.specs.Clones.{clones_among}
-use Rattle.tie_families.specs.Steps.Levels.{is_first_open, is_settled, has_settled, ties, shares_no_voter, tied_worth, is_independent, end, chosen, followed, family_changes}
+use Rattle.tie_families.specs.Steps.Levels.{is_first_open, is_settled, has_settled, ties, shares_no_voter, tied_worth, end, chosen, followed, family_changes}
 use Rattle.ballot_base.specs.Clones.{AreClones}
 
 no_more : (n : ℕ) → nat_le n 0 ≡ (n == 0)
@@ -84,46 +83,14 @@ passes-more p c old new low is before more =
 
 -- ---- the end, as the code finds it
 
-some-more-than : (n most : ℕ) → n < most → nat_lt n most ≡ true
-some-more-than n most more = grind arith
-
-pub none-more : (n most : ℕ) → most ≤ n → nat_lt n most ≡ false
-none-more n most few = grind arith
-
-pub end-settled : (step : Step) (weights : List ℕ) (m n : ℕ) (rows : List Row) (set : List ℕ) → n ≡ m → is_settled step weights m rows set ≡ true → Some (range_with_len 1 n) ≡ end step weights m rows set
+pub end-found : (step : Step) (weights : List ℕ) (m n : ℕ) (rows : List Row) (set : List ℕ) (w : ℕ → ℕ) (best : ℕ) → n ≡ m → ((c : ℕ) → w c ≡ worth step weights rows set c)
+    → best ≡ fold (better step) (worst step) (map w (open_candidates step n set))
+    → end step weights m rows set ≡ cond (has_settled step best) (Some (range_with_len 1 m))
+    (cond (nat_lt 0 best && (nat_le 2 (length (ties step weights m rows set)) && shares_no_voter rows (ties step weights m rows set))) (Some (fold (change step) set (ties step weights m rows set))) None)
 unfolding end
-end-settled step weights m n rows set same settled = ap (λ k. Some (range_with_len 1 k)) same ∙ sym (ap (λ b. cond b (Some (range_with_len 1 m)) (cond (is_independent step weights m rows set) (Some (fold (change step) set (ties step weights m rows set))) None)) settled)
-
-module _ (step : Step) (weights : List ℕ) (m : ℕ) (rows : List Row) (set tied : List ℕ) (unsettled : is_settled step weights m rows set ≡ false) (are : tied ≡ ties step weights m rows set) where
-  pub end-independent : 0 < tied_worth step weights m rows set → 2 ≤ length tied → shares_no_voter rows tied ≡ true → Some (fold (change step) set tied) ≡ end step weights m rows set
-  unfolding end
-  end-independent may some apart = grind (arith, common_steps, and_from, some-more-than, le-leb, Some, None)
-
-  pub end-none : (nat_lt 0 (tied_worth step weights m rows set) && (nat_le 2 (length tied) && shares_no_voter rows tied)) ≡ false → None ≡ end step weights m rows set
-  unfolding end
-  end-none not = grind (arith, common_steps, Some, None)
-
-pub over-fails : (n most : ℕ) → most < n → nat_le n most ≡ false
-over-fails n most more = grind arith
-
-pub row-at : (rows : List Row) (i : ℕ) (row : Row) → slice_get rows i ≡ Some row → (i < length rows) × (get_or rows i row ≡ row)
-row-at [] i row found = absurd (let f : false ≡ true = ap is_some found in cc)
-row-at (r ∷ rows) zero row found = (omega arith, ap (λ o. of_some o row) found)
-  where
-    of_some : Option Row → Row → Row
-    of_some None d = d
-    of_some (Some x) d = x
-row-at (r ∷ rows) (suc i) row found = grind (arith, common_steps, row-at rows i row found)
-
--- where there is no end, somebody brings something
-pub none-unsettled : (step : Step) (weights : List ℕ) (m : ℕ) (rows : List Row) (set : List ℕ) → end step weights m rows set ≡ None → is_settled step weights m rows set ≡ false
-unfolding end
-none-unsettled step weights m rows set none = grind (arith, common_steps, cases_Bool, is_some, Some, None)
-
--- ---- a set that is gone through
-
-pub first-parts : (left rest : List ℕ) (k last : ℕ) → left ≡ k ∷ rest → IsIncreasing 1 last left → ((1 ≤ k) × (k ≤ last)) × IsIncreasing 1 last rest
-first-parts left rest k last parts up = grind (arith, common_steps, IsIncreasing-lower)
+end-found step weights m n rows set w best same are found =
+    let is = best-found step weights m n rows set w best same are found in
+    rw (settled-is step weights m rows set best is, is) refl
 
 -- ---- what follows a set, as the code finds it
 

@@ -2,7 +2,7 @@
 use Rattle.std.proofs.Common.{◌≡◌, ℕ, ◌+◌, ◌-◌, ◌≤◌, ◌<◌, ◌∙◌, Bool, true, false, cond, List, ◌++◌, append-nil, refl, sym, ap, subst, arith, inl, inr, length, length-append, Contains, get_or, []}
 use mir.Val.{bool_byte}
 use Rattle.std.specs.List.{list_any, zip, AllByRecursion}
-use Rattle.std.proofs.lemmas.Bool.{cases_Bool, both_ways}
+use Rattle.std.proofs.lemmas.Bool.{cases_Bool, false_from_ne_true}
 use Rattle.std.proofs.lemmas.List.Elements.{All-contains, All-from_recursion}
 use Rattle.std.proofs.Math.Bool.{or-false}
 use Rattle.ballot_base.specs.Lists.{IsIncreasing, increasing_lists, lists_of}
@@ -10,43 +10,33 @@ use Rattle.ballot_base.specs.Ballots.{Election}
 use Rattle.ballot_base.proofs.Committees.{increasing_lists-contains, chosen-from_contains}
 use Rattle.tie_walk.specs.Ceilings.{IsBound, IsExactAtBest}
 use Rattle.tie_walk.specs.Sequences.{hit_weights, is_sequential_winner}
-use Rattle.tie_walk.specs.Steps.Choices.{change, is_choice, start}
+use Rattle.tie_walk.specs.Steps.Choices.{step_of, choices_of}
 use Rattle.tie_walk.specs.declared.sequential.SeqRule.{SeqRule}
-use Rattle.tie_walk.specs.declared.sequential.SeqRule.TheVariants.{SeqPav, SeqCc, RevSeqPav}
-use Rattle.tie_walk.specs.declared.sequential.Step.TheVariants.{Grow, Shrink}
 use Rattle.tie_walk.proofs.HitWeights.{one-most}
-use Rattle.tie_walk.proofs.Choices.{reached_from_made}
-use Rattle.tie_walk.proofs.SequenceLemmas.{grown_set-made, left_set-made, reached-sized}
+use Rattle.tie_walk.proofs.LevelLemmas.{reached-increasing}
 use Rattle.tie_families.specs.Clones.{is_between}
 use Rattle.tie_families.specs.Families.{Sequential, sequential_of, is_winner, some_winner}
 use Rattle.tie_families.specs.Steps.Families.{KeepsFamilies, may_be_in}
 use Rattle.tie_families.specs.Steps.Levels.{AreFamilies}
 use Rattle.tie_families.proofs.CompletionLemmas.{joined-increasing, may-is}
+use Rattle.tie_families.proofs.LevelLemmas.{reached-chosen}
+use Rattle.tie_families.proofs.Lists.{same_tests}
 use Rattle.tie_families.proofs.PairLemmas.{pairs-first}
-use Rattle.tie_families.proofs.WinnerLemmas.{any-from, any-at}
+use Rattle.tie_families.proofs.WinnerLemmas.{any-from, any-at, rule-size, winner-reached}
 
 -- a winner has k members
 pub winner-size : (rule : SeqRule) (e : Election) (k : ℕ) (set : List ℕ) → k ≤ e.m → is_sequential_winner rule e k set ≡ true → length set ≡ k
-winner-size SeqPav e k set fits wins =
-    let w = hit_weights SeqPav e.m in
-    reached-sized Grow w e.m e.rows k set (reached_from_made (is_choice Grow w e.m e.rows) (change Grow) e.m (start Grow e.m) k set (sym (grown_set-made w e.m e.rows k set) ∙ wins))
-winner-size SeqCc e k set fits wins =
-    let w = hit_weights SeqCc e.m in
-    reached-sized Grow w e.m e.rows k set (reached_from_made (is_choice Grow w e.m e.rows) (change Grow) e.m (start Grow e.m) k set (sym (grown_set-made w e.m e.rows k set) ∙ wins))
-winner-size RevSeqPav e k set fits wins =
-    let w = hit_weights RevSeqPav e.m in
-    let sized = reached-sized Shrink w e.m e.rows (e.m - k) set (reached_from_made (is_choice Shrink w e.m e.rows) (change Shrink) e.m (start Shrink e.m) (e.m - k) set (sym (left_set-made w e.m e.rows k set) ∙ wins)) in
-    omega (arith, sized, fits)
+winner-size rule e k set fits wins =
+    let r = winner-reached rule e k set wins in
+    (rule-size rule e.m k set fits (reached-increasing (step_of rule) (hit_weights rule e.m) e.m e.rows (choices_of rule e.m k) set r)).1
+    (reached-chosen (step_of rule) (hit_weights rule e.m) e.m e.rows (choices_of rule e.m k) set r)
 
 module _ (e : Election) (rule : SeqRule) (k : ℕ) (fits : k ≤ e.m) where
   pub some-other : (c : ℕ) (set : List ℕ) (left : ℕ) → (length set + left ≡ k → ⊥) → some_winner (sequential_of e rule k) c set left ≡ false
-  some-other c set left other = elim (cases_Bool (some_winner (sequential_of e rule k) c set left)) [
-    | inl some ↦
-        let a = any-at (λ added. is_winner (sequential_of e rule k) (set ++ added)) (increasing_lists (c + 1) e.m left) some in
-        let chosen = chosen-from_contains (c + 1) e.m left a.0 a.1 in
-        absurd (other (omega (arith, length-append set a.0, chosen.1, winner-size rule e k (set ++ a.0) fits a.2)))
-    | inr none ↦ none
-  ]
+  some-other c set left other =
+      false_from_ne_true (some_winner (sequential_of e rule k) c set left) (λ some.
+      let a = any-at (λ added. is_winner (sequential_of e rule k) (set ++ added)) (increasing_lists (c + 1) e.m left) some in
+      other (omega (arith, length-append set a.0, chosen-from_contains (c + 1) e.m left a.0 a.1, winner-size rule e k (set ++ a.0) fits a.2)))
 
   module _ (leasts mosts : List (List ℕ)) (families : AreFamilies rule e k leasts mosts) where
     inside : (family : List ℕ × List ℕ) → Contains (zip leasts mosts) family → IsIncreasing 1 e.m family.0
@@ -60,24 +50,18 @@ module _ (e : Election) (rule : SeqRule) (k : ℕ) (fits : k ≤ e.m) where
         let lists = increasing_lists (c + 1) e.m left in
         let pairs = zip leasts mosts in
         let has = λ (committee : List ℕ) (family : List ℕ × List ℕ). is_between e.m e.rows family.0 family.1 committee in
-        let joined = λ (added : List ℕ) (up' : IsIncreasing (c + 1) e.m added). joined-increasing c e.m 1 set added (omega arith) within up up' in
-        elim (cases_Bool (list_any (may_be_in e.m e.rows c set left) pairs)) [
-          | inl may ↦
-              let f = any-at (may_be_in e.m e.rows c set left) pairs may in
-              let a = any-at (λ added. has (set ++ added) f.0) lists (sym (may-is e.m e.rows c set left f.0 within up (inside f.0 f.1)) ∙ f.2) in
-              let chosen = chosen-from_contains (c + 1) e.m left a.0 a.1 in
-              let wins = families.reached (set ++ a.0) (joined a.0 chosen.0) (omega (arith, length-append set a.0, chosen.1, whole)) ∙ any-from (has (set ++ a.0)) pairs f.0 f.1 a.2 in
-              may ∙ sym (any-from (λ added. is_winner (sequential_of e rule k) (set ++ added)) lists a.0 a.1 wins)
-          | inr never ↦ elim (cases_Bool (some_winner (sequential_of e rule k) c set left)) [
-            | inl some ↦
-                let a = any-at (λ added. is_winner (sequential_of e rule k) (set ++ added)) lists some in
-                let chosen = chosen-from_contains (c + 1) e.m left a.0 a.1 in
-                let f = any-at (has (set ++ a.0)) pairs (sym (families.reached (set ++ a.0) (joined a.0 chosen.0) (omega (arith, length-append set a.0, chosen.1, whole))) ∙ a.2) in
-                let may = may-is e.m e.rows c set left f.0 within up (inside f.0 f.1) ∙ any-from (λ added. has (set ++ added) f.0) lists a.0 a.1 f.2 in
-                absurd (both_ways (list_any (may_be_in e.m e.rows c set left) pairs) never (any-from (may_be_in e.m e.rows c set left) pairs f.0 f.1 may))
-            | inr none ↦ never ∙ sym none
-          ]
-        ]
+        let wins-by = λ (added : List ℕ) (here : Contains lists added).
+        let chosen = chosen-from_contains (c + 1) e.m left added here in
+        families.reached (set ++ added) (joined-increasing c e.m 1 set added (omega arith) within up chosen.0) (omega (arith, length-append set added, chosen.1, whole)) in
+        same_tests (list_any (may_be_in e.m e.rows c set left) pairs) (some_winner (sequential_of e rule k) c set left)
+        (λ may.
+        let f = any-at (may_be_in e.m e.rows c set left) pairs may in
+        let a = any-at (λ added. has (set ++ added) f.0) lists (sym (may-is e.m e.rows c set left f.0 within up (inside f.0 f.1)) ∙ f.2) in
+        any-from (λ added. is_winner (sequential_of e rule k) (set ++ added)) lists a.0 a.1 (wins-by a.0 a.1 ∙ any-from (has (set ++ a.0)) pairs f.0 f.1 a.2))
+        (λ some.
+        let a = any-at (λ added. is_winner (sequential_of e rule k) (set ++ added)) lists some in
+        let f = any-at (has (set ++ a.0)) pairs (sym (wins-by a.0 a.1) ∙ a.2) in
+        any-from (may_be_in e.m e.rows c set left) pairs f.0 f.1 (may-is e.m e.rows c set left f.0 within up (inside f.0 f.1) ∙ any-from (λ added. has (set ++ added) f.0) lists a.0 a.1 f.2))
 
 -- the same, of what the families keep, where contracts see the election, the rule and k as one
 module _ {e : Election} {rule : SeqRule} {m k : ℕ} {clones leasts mosts : List (List ℕ)} (keeps : KeepsFamilies e rule m k clones leasts mosts) (s : Sequential) (is : sequential_of e rule k ≡ s) where
@@ -97,18 +81,11 @@ module _ {e : Election} {rule : SeqRule} {m k : ℕ} {clones leasts mosts : List
       ∙ some-is e rule k fits leasts mosts keeps.families c set left (omega (arith, within, ap (λ (t : Sequential). t.election.m) is)) up (sym whole)
       ∙ ap {B = Bool} (λ (t : Sequential). some_winner t c set left) is
 
-  -- a set of a family
-  set-of : (list sets : List (List ℕ)) (i : ℕ) (set : List ℕ) → list ≡ sets → AllByRecursion (λ x. IsIncreasing 1 e.m x) sets → i < length list → ((d : List ℕ) → set ≡ get_or list i d)
-      → IsIncreasing 1 s.election.m set
-  set-of list sets i set same all inside at =
-      subst (λ (t : Sequential). IsIncreasing 1 t.election.m set) is
-      (subst (IsIncreasing 1 e.m) (sym (at [])) (All-from_recursion (λ x. IsIncreasing 1 e.m x) list (subst (AllByRecursion (λ x. IsIncreasing 1 e.m x)) (sym same) all) i [] inside))
-
+  -- a least set is a set of candidates
   pub least-of : (list : List (List ℕ)) (i : ℕ) (set : List ℕ) → list ≡ leasts → i < length list → ((d : List ℕ) → set ≡ get_or list i d) → IsIncreasing 1 s.election.m set
-  least-of list i set same = set-of list leasts i set same keeps.families.least_sets
-
-  pub most-of : (list : List (List ℕ)) (i : ℕ) (set : List ℕ) → list ≡ mosts → i < length list → ((d : List ℕ) → set ≡ get_or list i d) → IsIncreasing 1 s.election.m set
-  most-of list i set same = set-of list mosts i set same keeps.families.most_sets
+  least-of list i set same inside at =
+      subst (λ (t : Sequential). IsIncreasing 1 t.election.m set) is
+      (subst (IsIncreasing 1 e.m) (sym (at [])) (All-from_recursion (λ x. IsIncreasing 1 e.m x) list (subst (AllByRecursion (λ x. IsIncreasing 1 e.m x)) (sym same) keeps.families.least_sets) i [] inside))
 
 -- a committee completes itself
 pub value-is : (s : Sequential) (set : List ℕ) → some_winner s s.election.m set 0 ≡ is_winner s set

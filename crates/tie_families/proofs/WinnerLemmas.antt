@@ -1,6 +1,7 @@
 -- The committees of the families of the last level are the winners of a sequential rule.
 use Rattle.std.proofs.lemmas.Grind.{common_steps}
-use Rattle.std.proofs.Common.{◌≡◌, ℕ, zero, suc, ◌+◌, ◌-◌, ◌≤◌, Bool, true, List, ap, arith, inl, inr, get_or, Contains, add-one}
+use Rattle.std.proofs.Common.{◌≡◌, ℕ, zero, suc, ◌+◌, ◌-◌, ◌*◌, ◌/◌, ◌≤◌, ◌∙◌, Bool, true, List, sym, arith, inl, inr, length, get_or, Contains, add-one}
+use Rattle.std.proofs.Math.Nat.{mul-le-mul, mul-div_cancel'}
 use Rattle.std.specs.Prelude.{nat_le}
 use Rattle.std.specs.List.{list_any, range_with_len}
 use Rattle.std.proofs.lemmas.Bool.{cases_lt, le-leb, leb-true, ne_eqb}
@@ -8,45 +9,42 @@ use Rattle.std.proofs.lemmas.List.{get_or_past}
 use Rattle.std.proofs.lemmas.List.Folds.{Any-from_list_any, list_any-from_Any}
 use Rattle.ballot_base.specs.Lists.{IsIncreasing}
 use Rattle.ballot_base.specs.CommonMultiple.{common_multiple}
-use Rattle.ballot_base.specs.Ballots.{Row}
-use Rattle.tie_walk.specs.Sequences.{hit_weight, hit_weights, weight}
+use Rattle.ballot_base.specs.Ballots.{Row, Election}
+use Rattle.tie_walk.specs.Sequences.{hit_weight, hit_weights, is_sequential_winner}
+use Rattle.tie_walk.specs.Steps.Choices.{step_of, choices_of, change, is_choice, start}
 use Rattle.tie_walk.specs.declared.sequential.SeqRule.{SeqRule}
 use Rattle.tie_walk.specs.declared.sequential.SeqRule.TheVariants.{SeqPav, SeqCc, RevSeqPav}
+use Rattle.tie_walk.proofs.Choices.{is_made, reached_from_made, made_from_reached}
 use Rattle.tie_walk.proofs.HitWeights.{hit_weights-length, hit_weights-at}
-use Rattle.tie_walk.proofs.LevelLemmas.{in_bounds}
+use Rattle.tie_walk.proofs.LevelLemmas.{in_bounds, followed-candidates}
+use Rattle.tie_walk.proofs.SequenceLemmas.{grown_set-made, left_set-made}
 use Rattle.tie_walk.proofs.StepLemmas.{has_member-range}
 use Rattle.ballot_base.specs.Clones.{are_clones}
-use Rattle.ballot_base.proofs.WeightLemmas.{quotient-falls}
+use Rattle.ballot_base.proofs.LeastMultiples.{common_multiple_divides}
 use Rattle.tie_families.specs.Clones.{clone_count, has_as_many}
-use Rattle.tie_families.specs.Steps.Levels.{IsBelow, IsFalling}
+use Rattle.tie_families.specs.Steps.Levels.{chosen, IsBelow, IsFalling, IsReachedBy}
 use Rattle.tie_families.proofs.CloneLemmas.{clones-sameness}
 use Rattle.tie_families.proofs.Lists.{all-at, all-from}
 use Rattle.tie_families.proofs.Numbers.{some-passes, count-class}
+use Rattle.tie_families.proofs.Picked.{chosen-left}
 
--- ---- later hits bring no more
+-- ---- after a hit that brings something, the next one brings less
 
-hit-falls : (rule : SeqRule) (m j : ℕ) → 1 ≤ j → hit_weight rule m (j + 1) ≤ hit_weight rule m j
-hit-falls SeqPav m j low = quotient-falls (common_multiple m) j low
-hit-falls SeqCc m j low = rw (ne_eqb (j + 1) 1 (λ e. omega (arith, e, low))) (omega arith)
-hit-falls RevSeqPav m j low = quotient-falls (common_multiple m) j low
+exact-falls : (n a b j : ℕ) → 1 ≤ j → n ≡ j * a → n ≡ (j + 1) * b → b ≤ a - 1
+exact-falls n a b j low at next = grind (arith, common_steps, cases_lt, mul-le-mul)
 
-hits-fall : (rule : SeqRule) (m i : ℕ) → get_or (hit_weights rule m) (i + 1) 0 ≤ get_or (hit_weights rule m) i 0
-hits-fall rule m i = grind (arith, common_steps, cases_lt, hit_weights-at, hit-falls, get_or_past, hit_weights-length)
+shares-fall : (m j : ℕ) → 1 ≤ j → j + 1 ≤ m → common_multiple m / (j + 1) ≤ common_multiple m / j - 1
+shares-fall m j low high = grind (arith, common_steps, mul-div_cancel', common_multiple_divides, exact-falls)
 
-fall-by : (rule : SeqRule) (m a n : ℕ) → get_or (hit_weights rule m) (a + n) 0 ≤ get_or (hit_weights rule m) a 0
-fall-by rule m a zero = let e : a + 0 ≡ a = omega arith in omega (arith, ap (λ i. get_or (hit_weights rule m) i 0) e)
-fall-by rule m a (suc n) = grind (arith, common_steps, fall-by rule m a n, get_or, hits-fall)
+hit-falls : (rule : SeqRule) (m j : ℕ) → 1 ≤ j → j + 1 ≤ m → hit_weight rule m (j + 1) ≤ hit_weight rule m j - 1
+hit-falls SeqPav m j low high = shares-fall m j low high
+hit-falls SeqCc m j low high = rw (ne_eqb (j + 1) 1 (λ e. omega (arith, e, low))) (omega arith)
+hit-falls RevSeqPav m j low high = shares-fall m j low high
 
 pub hit_weights-fall : (rule : SeqRule) (m : ℕ) → IsFalling (hit_weights rule m)
-hit_weights-fall rule m a b h =
-    let e : a + (b - a) ≡ b = omega (arith, h) in
-    omega (
-      arith,
-      ap (weight (hit_weights rule m)) (add-one a),
-      ap (weight (hit_weights rule m)) (add-one b),
-      ap (λ i. get_or (hit_weights rule m) i 0) e,
-      fall-by rule m a (b - a),
-    )
+hit_weights-fall rule m zero low = absurd (omega (arith, low))
+hit_weights-fall rule m (suc j) low =
+    grind (arith, common_steps, get_or, add-one, cases_lt, hit_weights-at, hit-falls, get_or_past, hit_weights-length)
 
 -- ---- as many of each class, as a test
 
@@ -78,3 +76,30 @@ any-from p xs x inside passes = list_any-from_Any p xs (inside.0, x, inside.1, i
 
 pub any-at : {X : Type 0} (p : X → Bool) (xs : List X) → list_any p xs ≡ true → (x : X) × Contains xs x × (p x ≡ true)
 any-at p xs any = let some = Any-from_list_any p xs any in (some.1, (some.0, some.2, some.3), some.4)
+
+-- ---- the sets that the choices of a rule make
+
+rule-made : (rule : SeqRule) (e : Election) (k : ℕ) (set : List ℕ)
+    → is_sequential_winner rule e k set ≡ is_made (is_choice (step_of rule) (hit_weights rule e.m) e.m e.rows) (change (step_of rule)) e.m (start (step_of rule) e.m) (choices_of rule e.m k) set
+rule-made SeqPav e k set = grown_set-made (hit_weights SeqPav e.m) e.m e.rows k set
+rule-made SeqCc e k set = grown_set-made (hit_weights SeqCc e.m) e.m e.rows k set
+rule-made RevSeqPav e k set = left_set-made (hit_weights RevSeqPav e.m) e.m e.rows k set
+
+pub rule-size : (rule : SeqRule) (m k : ℕ) (set : List ℕ) → k ≤ m → IsIncreasing 1 m set
+    → (length set ≡ k → chosen (step_of rule) m set ≡ choices_of rule m k) × (chosen (step_of rule) m set ≡ choices_of rule m k → length set ≡ k)
+rule-size SeqPav m k set fits up = (λ is. is, λ is. is)
+rule-size SeqCc m k set fits up = (λ is. is, λ is. is)
+rule-size RevSeqPav m k set fits up = (λ is. omega (arith, is, fits, chosen-left m set up), λ is. omega (arith, is, fits, chosen-left m set up))
+
+module _ (rule : SeqRule) (e : Election) (k : ℕ) (set : List ℕ) where
+  pub reached-wins : IsReachedBy (step_of rule) (hit_weights rule e.m) e.m e.rows (choices_of rule e.m k) set → is_sequential_winner rule e k set ≡ true
+  reached-wins r =
+      let step = step_of rule in
+      let may = is_choice step (hit_weights rule e.m) e.m e.rows in
+      rule-made rule e k set
+      ∙ made_from_reached may (change step) e.m (start step e.m) (choices_of rule e.m k) set r (followed-candidates step (hit_weights rule e.m) e.m e.rows (start step e.m) r.list r.made)
+
+  pub winner-reached : is_sequential_winner rule e k set ≡ true → IsReachedBy (step_of rule) (hit_weights rule e.m) e.m e.rows (choices_of rule e.m k) set
+  winner-reached wins =
+      let step = step_of rule in
+      reached_from_made (is_choice step (hit_weights rule e.m) e.m e.rows) (change step) e.m (start step e.m) (choices_of rule e.m k) set (sym (rule-made rule e k set) ∙ wins)

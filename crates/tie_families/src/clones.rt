@@ -4,8 +4,8 @@ ghost use Rattle.ballot_base.specs.Limits.{most_candidates};
 ghost use Rattle.ballot_base.specs.Lists.{IsIncreasing};
 ghost use Rattle.ballot_base.specs.Ballots.{Row};
 ghost use Rattle.ballot_base.specs.Clones.{AreClones};
-ghost use Rattle.tie_families.specs.Clones.{has_as_many, is_between};
-ghost use Rattle.tie_families.specs.Steps.Families.{AreApart};
+ghost use Rattle.tie_families.specs.Clones.{clone_count, has_as_many, is_between};
+ghost use Rattle.tie_families.specs.Steps.Families.{are_apart};
 ghost use Rattle.tie_families.specs.Steps.Tables.{completed};
 
 use ballot_base::{CandSet, Clones};
@@ -21,15 +21,19 @@ pub(crate) struct Classes {
 impl Classes {
     /// Whether each candidate is its only clone.
     pub(crate) fn are_apart(&self) -> bool
-        ensures { result ≡ true → AreApart self.now.m self.now.clones }
+        ensures { result ≡ are_apart self.now.m self.now.clones }
     {
-        for c in 1..self.m + 1 {
-            let class = self.clones.class(c);
-            if class.len() != 1 {
-                return false;
-            }
-        }
-        true
+        (1..self.m + 1).all(|c| self.clones.class(c).len() == 1)
+    }
+
+    /// How many clones of `c` a set has.
+    fn count(&self, set: CandSet, c: u8) -> u8
+        requires set { IsIncreasing 1 self.now.m set }
+        requires low { 1 ≤ c }
+        requires high { c ≤ self.now.m }
+        ensures { (rows : List Row) → AreClones self.now.m rows self.now.clones → result ≡ clone_count rows set c }
+    {
+        set.common(self.clones.class(c)).len()
     }
 
     /// Whether a set has at least as many of each class as another one.
@@ -40,8 +44,7 @@ impl Classes {
             → result ≡ has_as_many self.now.m rows set other }
     {
         for c in 1..self.m + 1 {
-            let class = self.clones.class(c);
-            if set.common(class).len() < other.common(class).len() {
+            if self.count(set, c) < self.count(other, c) {
                 return false;
             }
         }
@@ -71,8 +74,7 @@ impl Classes {
     {
         let mut all = set;
         for x in c + 1..self.m + 1 {
-            let class = self.clones.class(x);
-            if all.common(class).len() < other.common(class).len() {
+            if self.count(all, x) < self.count(other, x) {
                 all = all.with(x);
             }
         }

@@ -1,7 +1,7 @@
 //! The families that the choices of a sequential rule make, level by level. Three facts keep the levels short.
 //!
 //! - **Clones tie.** Whether a set is reached, what it gains and what it loses depend only on its number of members of
-//!   each class of clones (`proofs/CloneLemmas.antt`, `TiedClones.antt`). So of tied clones only the first is followed.
+//!   each class of clones (`proofs/RowLemmas.antt`, `TiedClones.antt`). So of tied clones only the first is followed.
 //!   Candidates without supporters are one class.
 //! - **Gains only fall.** If no candidate adds to a set, no candidate adds to a larger one. Then all candidates tie at
 //!   each step, and each committee above the set is reached.
@@ -15,29 +15,20 @@
 //! sequence of choices makes.
 ghost use Rattle.std.specs.Prelude.{◌≡◌, ℕ, ◌++◌, ◌^◌, ◌<◌, ◌≤◌, false, None, IfOk, OnOk, fold, map, length, slice_index};
 ghost use Rattle.std.specs.List.{AllByRecursion};
+ghost use Rattle.ballot_base.specs.Limits.{most_candidates};
 ghost use Rattle.ballot_base.specs.Lists.{IsIncreasing};
-ghost use Rattle.tie_walk.specs.Sequences.{hit_weights};
 ghost use Rattle.tie_walk.specs.Steps.Choices.{HasSetsOf, change, worth};
 ghost use Rattle.ballot_base.specs.Clones.{AreClones};
-ghost use Rattle.tie_families.specs.Steps.Levels.{is_first_open, has_settled, ties, tied_worth, shares_no_voter, end, chosen, family_changes, other_end, IsFalling, IsStrict, IsFamilyLevel, IsNextFamilies, AreFamilies};
+ghost use Rattle.tie_families.specs.Steps.Levels.{is_first_open, has_settled, ties, tied_worth, shares_no_voter, end, chosen, family_changes, other_end, IsFalling, IsFamilyLevel, IsNextFamilies};
 
 use ballot_base::{CandSet, Clones, Profile, Worths};
 use std::alloc::{AllocError, Allocator};
 use std::collections::HashSet;
 use std::hash::{BuildHasherDefault, FoldHasher};
-use tie_walk::SeqRule;
-use tie_walk::sequential::{Step, best_worth, hit_weights, in_order, worths};
+use tie_walk::sequential::{Step, best_worth, in_order, worths};
 
 /// The families of a level that were found so far, each once.
 type FoundFamilies<A> = HashSet<CandSet, BuildHasherDefault<FoldHasher>, A>;
-
-/// Families: each has a least and a most set, which bound the members of each class of clones in its committees.
-#[derive(Drop)]
-pub(crate) struct Spans<A: Allocator + Copy> {
-    pub(crate) clones: Clones,
-    pub(crate) leasts: Vec<CandSet, A>,
-    pub(crate) mosts: Vec<CandSet, A>,
-}
 
 /// Whether none of the clones below `c` may be chosen.
 fn is_first_open(step: Step, clones: CandSet, set: CandSet, c: u8) -> bool
@@ -74,12 +65,12 @@ fn after_all(step: Step, set: CandSet, choices: CandSet) -> CandSet
 
 /// The number of choices that lead to a set.
 fn chosen(step: Step, m: u8, set: CandSet) -> u8
-    requires { length set ≤ m }
+    requires { m ≤ most_candidates }
     ensures { result ≡ chosen step m set }
 {
     match step {
         Step::Grow => set.len(),
-        Step::Shrink => m - set.len(),
+        Step::Shrink => CandSet::all(m).minus(set).len(),
     }
 }
 
@@ -100,15 +91,14 @@ fn insert_each<A: Allocator + Copy>(
 
 /// A sequential rule on a profile, followed level by level: level `n` has the families that `n` choices make.
 #[derive(Drop)]
-struct Levels<'a, A: Allocator + Copy> {
-    profile: &'a Profile<A>,
-    clones: &'a Clones,
-    step: Step,
-    weights: &'a [u128],
+pub(crate) struct Levels<'a, A: Allocator + Copy> {
+    pub(crate) profile: &'a Profile<A>,
+    pub(crate) clones: &'a Clones,
+    pub(crate) step: Step,
+    pub(crate) weights: &'a [u128],
     ghost classes: { AreClones profile.now.m profile.now.rows clones.now },
     ghost small: { (j : ℕ) → slice_index weights.now j < 2 ^ 90 },
     ghost falling: { IsFalling weights.now },
-    ghost strict: { IsStrict weights.now },
 }
 
 impl<A: Allocator + Copy> Levels<'_, A> {
@@ -134,25 +124,6 @@ impl<A: Allocator + Copy> Levels<'_, A> {
         ties
     }
 
-    /// The set that all choices lead to if they may be made in any order, given the best worth and the candidates who
-    /// tie for it.
-    fn end(&self, best: u128, set: CandSet, tied: CandSet) -> Option<CandSet>
-        requires best { best ≡ tied_worth
-            self.now.step self.now.weights.now self.now.profile.now.m self.now.profile.now.rows set }
-        requires tied { has_settled self.now.step best ≡ false → tied ≡ ties
-            self.now.step self.now.weights.now self.now.profile.now.m self.now.profile.now.rows set }
-        ensures { result ≡ end
-            self.now.step self.now.weights.now self.now.profile.now.m self.now.profile.now.rows set }
-    {
-        if is_settled(self.step, best) {
-            return Some(CandSet::all(self.profile.m()));
-        }
-        if best > 0 && tied.len() >= 2 && shares_no_voter(self.profile, tied) {
-            return Some(after_all(self.step, set, tied));
-        }
-        None
-    }
-
     /// The set that all choices lead to if they may be made in any order. If there is no such set, the candidates who
     /// may be chosen next are returned as well.
     fn ties_and_end(&self, set: CandSet) -> (CandSet, Option<CandSet>)
@@ -163,12 +134,14 @@ impl<A: Allocator + Copy> Levels<'_, A> {
     {
         let totals = worths(self.profile, self.step, self.weights, set);
         let best = best_worth(self.step, self.profile.m(), &totals, set);
-        let tied = if is_settled(self.step, best) {
-            CandSet::empty()
-        } else {
-            self.ties(&totals, best, set)
-        };
-        (tied, self.end(best, set, tied))
+        if is_settled(self.step, best) {
+            return (CandSet::empty(), Some(CandSet::all(self.profile.m())));
+        }
+        let tied = self.ties(&totals, best, set);
+        if best > 0 && tied.len() >= 2 && shares_no_voter(self.profile, tied) {
+            return (tied, Some(after_all(self.step, set, tied)));
+        }
+        (tied, None)
     }
 
     /// Adds the families that follow a set of level `size`, except those that were found before.
@@ -185,12 +158,12 @@ impl<A: Allocator + Copy> Levels<'_, A> {
             next.new.keys) }
     {
         let (tied, end) = self.ties_and_end(set);
-        if let Some(last) = end {
-            let is_over = chosen(self.step, self.profile.m(), last) <= size + 1;
-            next.insert(if is_over { last } else { set })?;
-            return Ok(());
-        }
-        insert_each(next, self.step, set, tied)
+        let Some(last) = end else {
+            return insert_each(next, self.step, set, tied);
+        };
+        let is_over = chosen(self.step, self.profile.m(), last) <= size + 1;
+        next.insert(if is_over { last } else { set })?;
+        Ok(())
     }
 
     /// The other end of a family of committees of size `k`: its set if that has size `k`, and otherwise its `end`.
@@ -201,8 +174,7 @@ impl<A: Allocator + Copy> Levels<'_, A> {
         if set.len() == k {
             return set;
         }
-        let (_ties, end) = self.ties_and_end(set);
-        end.unwrap_or(set)
+        self.ties_and_end(set).1.unwrap_or(set)
     }
 }
 
@@ -226,7 +198,11 @@ impl<A: Allocator + Copy + Drop> Levels<'_, A> {
     }
 
     /// The level after this many choices.
-    fn reached_families(&self, alloc: A, choices: u8) -> Result<Vec<CandSet, A>, AllocError>
+    pub(crate) fn reached_families(
+        &self,
+        alloc: A,
+        choices: u8,
+    ) -> Result<Vec<CandSet, A>, AllocError>
         requires { choices ≤ self.now.profile.now.m }
         ensures { IfOk result (λ sets. IsFamilyLevel
             self.now.step self.now.weights.now self.now.profile.now.m self.now.profile.now.rows choices sets.items) }
@@ -240,7 +216,12 @@ impl<A: Allocator + Copy + Drop> Levels<'_, A> {
     }
 
     /// The other ends of families, in order.
-    fn other_ends(&self, alloc: A, k: u8, sets: &[CandSet]) -> Result<Vec<CandSet, A>, AllocError>
+    pub(crate) fn other_ends(
+        &self,
+        alloc: A,
+        k: u8,
+        sets: &[CandSet],
+    ) -> Result<Vec<CandSet, A>, AllocError>
         ensures { IfOk result (λ ends. ends.items ≡ map (other_end
             self.now.step self.now.weights.now self.now.profile.now.m self.now.profile.now.rows k) sets.now) }
     {
@@ -250,39 +231,4 @@ impl<A: Allocator + Copy + Drop> Levels<'_, A> {
         }
         Ok(ends)
     }
-}
-
-/// The families of the committees of size `k` that some sequence of choices makes. They are in lexicographic order if
-/// every least set has size `k`.
-pub(crate) fn families_of<A: Allocator + Copy + Drop>(
-    alloc: A,
-    profile: &Profile<A>,
-    rule: SeqRule,
-    k: u8,
-) -> Result<Spans<A>, AllocError>
-    requires { k ≤ profile.now.m }
-    ensures clones { IfOk result (λ spans. AreClones profile.now.m profile.now.rows spans.clones) }
-    ensures families { IfOk result (λ spans. AreFamilies rule profile.now k spans.leasts.items spans.mosts.items) }
-{
-    let m = profile.m();
-    let clones = Clones::of(profile);
-    let weights = hit_weights(rule, m);
-    let step = rule.step();
-    let levels = Levels {
-        profile,
-        clones: &clones,
-        step,
-        weights: &weights[..usize::from(m)],
-    };
-    let sets = levels.reached_families(alloc, rule.choices(m, k))?;
-    let ends = levels.other_ends(alloc, k, &sets)?;
-    let (leasts, mosts) = match step {
-        Step::Grow => (sets, ends),
-        Step::Shrink => (ends, sets),
-    };
-    Ok(Spans {
-        clones,
-        leasts,
-        mosts,
-    })
 }

@@ -1,5 +1,6 @@
 -- What the families of winners keep.
-use Rattle.std.specs.Prelude.{◌≡◌, ℕ, ◌+◌, ◌≤◌, ◌&&◌, Bool, List, [], Option, None, Some, length, nat_le, slice_index_or}
+use Rattle.std.specs.Prelude.{◌≡◌, ℕ, ◌+◌, ◌≤◌, ◌&&◌, ◌==◌, Bool, List, [], Option, None, Some, length, nat_le, slice_index_or}
+use Rattle.std.specs.List.{list_all, range_with_len}
 use Rattle.ballot_base.specs.Limits.{most_candidates}
 use Rattle.ballot_base.specs.Ballots.{Row, Election}
 use Rattle.tie_walk.specs.Winners.{Winning}
@@ -27,9 +28,9 @@ pub record KeepsFamilies (e : Election) (rule : SeqRule) (m k : ℕ) (clones lea
   pub clones_are : AreClones e.m e.rows clones
   pub families : AreFamilies rule e k leasts mosts
 
--- each candidate is its only clone
-abbrev pub AreApart : ℕ → List (List ℕ) → Type 0
-AreApart m table = (c : ℕ) → 1 ≤ c → c ≤ m → length (slice_index_or table c []) ≡ 1
+-- whether each candidate is its only clone
+abbrev pub are_apart : ℕ → List (List ℕ) → Bool
+are_apart m table = list_all (λ c. length (slice_index_or table c []) == 1) (range_with_len 1 m)
 
 -- the winners still to come: those that are stored in order, or those of the walk
 abbrev pub still_to_come : {T : Type 0} → List (List ℕ) → Option (Winning T) → List (List ℕ)

@@ -60,10 +60,14 @@ end step weights m rows set =
     then Some (fold (change step) set (ties step weights m rows set))
     else None
 
+-- the candidates whom the choices that lead to a set have added, or taken out
+abbrev pub picked : Step → ℕ → List ℕ → List ℕ
+picked Grow m set = set
+picked Shrink m set = others m set
+
 -- how many choices lead to a set
 abbrev pub chosen : Step → ℕ → List ℕ → ℕ
-chosen Grow m set = length set
-chosen Shrink m set = m - length set
+chosen step m set = length (picked step m set)
 
 -- what the level after level `size` has of a set: the set itself, or its end once it is reached, or the sets that one
 -- choice makes
@@ -95,22 +99,12 @@ abbrev pub IsBelow : List Row → List ℕ → List ℕ → Type 0
 IsBelow rows set other = (c : ℕ) → clone_count rows set c ≤ clone_count rows other c
 
 -- as many of each class as choices may make of the set
-abbrev pub IsAhead : Step → List Row → List ℕ → List ℕ → Type 0
-IsAhead Grow rows set other = IsBelow rows set other
-IsAhead Shrink rows set other = IsBelow rows other set
+abbrev pub IsAhead : Step → ℕ → List Row → List ℕ → List ℕ → Type 0
+IsAhead step m rows set other = IsBelow rows (picked step m set) (picked step m other)
 
--- later hits bring no more than earlier ones
+-- after a hit that brings something, the next one brings less, and after another one it brings nothing
 abbrev pub IsFalling : List ℕ → Type 0
-IsFalling weights = (a b : ℕ) → a ≤ b → weight weights (b + 1) ≤ weight weights (a + 1)
-
--- after a hit that brings something, the next one brings less
-abbrev pub IsStrict : List ℕ → Type 0
-IsStrict weights = (j : ℕ) → 0 < weight weights (j + 1) → weight weights (j + 1 + 1) < weight weights (j + 1)
-
--- as many members as `size` choices leave
-abbrev pub IsOfSize : Step → ℕ → ℕ → List ℕ → Type 0
-IsOfSize Grow m size set = length set ≡ size
-IsOfSize Shrink m size set = length set + size ≡ m
+IsFalling weights = (j : ℕ) → 1 ≤ j → weight weights (j + 1) ≤ weight weights j - 1
 
 module _ (step : Step) (weights : List ℕ) (m : ℕ) (rows : List Row) where
   -- some list of this many choices makes the set
@@ -121,14 +115,14 @@ module _ (step : Step) (weights : List ℕ) (m : ℕ) (rows : List Row) where
   abbrev pub IsLasting : ℕ → List ℕ → Type 0
   IsLasting size set = (last : List ℕ) × (end step weights m rows set ≡ Some last) × (size < chosen step m last)
 
-  -- a family of a level has as many members as `size` choices leave; or fewer choices led to it, and it lasts
+  -- to a family of a level led `size` choices; or fewer did, and it lasts
   abbrev pub IsPlaced : ℕ → List ℕ → Type 0
-  IsPlaced size set = IsOfSize step m size set ⊎ ((chosen step m set < size) × IsLasting size set)
+  IsPlaced size set = (chosen step m set ≡ size) ⊎ ((chosen step m set < size) × IsLasting size set)
 
   -- between the set and its end, by numbers of each class
   pub record IsOf (set made : List ℕ) : Type 0 where
-    pub ahead : IsAhead step rows set made
-    pub until : (last : List ℕ) → end step weights m rows set ≡ Some last → IsAhead step rows made last
+    pub ahead : IsAhead step m rows set made
+    pub until : (last : List ℕ) → end step weights m rows set ≡ Some last → IsAhead step m rows made last
 
   -- the sets that `size` choices make are those of their size between some family and its end
   pub record IsFamilyLevel (size : ℕ) (sets : List (List ℕ)) : Type 0 where
@@ -136,7 +130,7 @@ module _ (step : Step) (weights : List ℕ) (m : ℕ) (rows : List Row) where
     pub candidates : (set : List ℕ) → Contains sets set → IsIncreasing 1 m set
     pub placed : (set : List ℕ) → Contains sets set → IsPlaced size set
     pub reached : (made : List ℕ) → IsReachedBy size made → (set : List ℕ) × Contains sets set × IsOf set made
-    pub made : (made set : List ℕ) → IsIncreasing 1 m made → IsOfSize step m size made → Contains sets set
+    pub made : (made set : List ℕ) → IsIncreasing 1 m made → chosen step m made ≡ size → Contains sets set
         → IsOf set made → IsReachedBy size made
 
 -- Families, each as the least and the most members that its committees have of each class. Those of k are the

@@ -1,13 +1,14 @@
-use Rattle.std.proofs.Common.{◌≡◌, ◌+◌, ◌-◌, ◌≤◌, ◌∙◌, sym, ap, subst, arith, length}
+use Rattle.std.proofs.Common.{◌≡◌, ◌+◌, ◌-◌, ◌∙◌, sym, ap, subst, arith, List}
+use Rattle.ballot_base.specs.Ballots.{Row}
+use Rattle.ballot_base.specs.Clones.{AreClones}
 use Rattle.std.specs.Prelude.{fold}
 use Rattle.std.specs.List.{range_with_len}
 use Rattle.ballot_base.specs.Lists.{IsIncreasing}
 use Rattle.ballot_base.proofs.Increasing.{IsIncreasing-higher, IsIncreasing-with_member}
-use Rattle.tie_families.specs.Clones.{clone_count}
 use Rattle.tie_families.specs.Steps.Tables.{completed_by}
-use Rattle.tie_families.proofs.TableLemmas.{own-count, completed-next, completed-with, completed-same}
+use Rattle.tie_families.proofs.TableLemmas.{completed-next, completed-with, completed-same}
 use Rattle.tie_families.proofs.clones.Classes.completed.Goals as goal
-use Rattle.tie_families.proofs.clones.Classes.completed.Goals.{then-len, else-len}
+use Rattle.tie_families.proofs.clones.Classes.completed.Goals.{then-count, else-count}
 
 pub loop-x-init : goal.loop-x-init
 loop-x-init c =
@@ -22,28 +23,17 @@ loop-x-preserved c =
     let m = c.args.self.now.m in
     let x = c.loop-x.x in
     let old = c.loop-x.all in
-    let table = c.args.self.now.clones in
-    let low : c.args.c + 1 ≤ x = omega arith in
-    elim c.if-len.branch [
-      | then-len w ↦ record {
+    let next = λ (rows : List Row) (are : AreClones m rows c.args.self.now.clones). completed-next rows c.args.other c.args.set old c.args.c x (omega arith) (c.loop-x.invariant.made rows are) in
+    elim c.if-count.branch [
+      | then-count w ↦ record {
         candidates = subst (IsIncreasing 1 m) (sym (w.all-is ∙ w.with-all.ensures)) (IsIncreasing-with_member 1 m old x (omega arith) (omega arith) c.loop-x.invariant.candidates);
         made = λ rows are.
-            let mine : c.len.result ≡ clone_count rows old x =
-            c.len.ensures.count ∙ ap length c.common.ensures ∙ own-count m rows table x c.class-class.result old are (omega arith) (omega arith) c.class-class.ensures c.loop-x.invariant.candidates in
-            let theirs : c.len-in-loop-x.result ≡ clone_count rows c.args.other x =
-            c.len-in-loop-x.ensures.count ∙ ap length c.common-in-loop-x.ensures ∙ own-count m rows table x c.class-class.result c.args.other are (omega arith) (omega arith) c.class-class.ensures c.requires.other in
-            w.all-is ∙ w.with-all.ensures ∙ sym (completed-with rows c.args.other old x (omega (arith, mine, theirs, w.if-len.true)))
-            ∙ sym (completed-next rows c.args.other c.args.set old c.args.c x low (c.loop-x.invariant.made rows are));
+            w.all-is ∙ w.with-all.ensures ∙ sym (completed-with rows c.args.other old x (omega (arith, c.count.ensures rows are, c.count-in-loop-x.ensures rows are, w.if-count.true))) ∙ sym (next rows are);
       }
-      | else-len w ↦ record {
+      | else-count w ↦ record {
         candidates = subst (IsIncreasing 1 m) (sym w.all-is) c.loop-x.invariant.candidates;
         made = λ rows are.
-            let mine : c.len.result ≡ clone_count rows old x =
-            c.len.ensures.count ∙ ap length c.common.ensures ∙ own-count m rows table x c.class-class.result old are (omega arith) (omega arith) c.class-class.ensures c.loop-x.invariant.candidates in
-            let theirs : c.len-in-loop-x.result ≡ clone_count rows c.args.other x =
-            c.len-in-loop-x.ensures.count ∙ ap length c.common-in-loop-x.ensures ∙ own-count m rows table x c.class-class.result c.args.other are (omega arith) (omega arith) c.class-class.ensures c.requires.other in
-            w.all-is ∙ sym (completed-same rows c.args.other old x (omega (arith, mine, theirs, w.if-len.false)))
-            ∙ sym (completed-next rows c.args.other c.args.set old c.args.c x low (c.loop-x.invariant.made rows are));
+            w.all-is ∙ sym (completed-same rows c.args.other old x (omega (arith, c.count.ensures rows are, c.count-in-loop-x.ensures rows are, w.if-count.false))) ∙ sym (next rows are);
       }
     ]
 

@@ -12,10 +12,7 @@ loop-done-init g c =
     let made : c.start.result ≡ start c.args.self.now.step e.m = c.start.ensures ∙ ap (start c.args.self.now.step) c.m.ensures.value in
     let first : c.push.new.self.items ≡ start c.args.self.now.step e.m ∷ [] =
     c.in_ok-push.ensures.items ∙ ap (λ l. l ++ c.start.result ∷ []) c.new-level.ensures.items ∙ ap (λ s. s ∷ []) made in
-    level-first c.args.self.now.step c.args.self.now.weights.now e.m e.rows c.m.ensures.valid.ballots c.args.self.now.falling c.args.self.now.strict c.push.new.self.items first
-
-pub next_level-requires-clause-size : goal.next_level-requires-clause-size
-next_level-requires-clause-size g c = omega (arith, c.requires)
+    level-first c.args.self.now.step c.args.self.now.weights.now e.m e.rows c.m.ensures.valid.ballots c.args.self.now.falling c.push.new.self.items first
 
 pub next_level-requires-clause-sets : goal.next_level-requires-clause-sets
 next_level-requires-clause-sets g c =
@@ -29,7 +26,7 @@ loop-done-preserved g c =
     let fits : c.loop-done.done < e.m = omega (arith, c.requires) in
     let made : IsNextFamilies c.args.self.now.step c.args.self.now.weights.now e.m e.rows c.loop-done.done c.loop-done.level.items c.in_ok-level.level.items =
     subst (λ l. IsNextFamilies c.args.self.now.step c.args.self.now.weights.now e.m e.rows c.loop-done.done l c.in_ok-level.level.items) c.deref.ensures.value c.in_ok-level.ensures in
-    level-next c.args.self.now.step c.args.self.now.weights.now e.m e.rows c.m.ensures.valid.ballots c.args.self.now.falling c.args.self.now.strict c.loop-done.done fits c.loop-done.level.items c.in_ok-level.level.items c.loop-done.invariant made
+    level-next c.args.self.now.step c.args.self.now.weights.now e.m e.rows c.m.ensures.valid.ballots c.args.self.now.falling c.loop-done.done fits c.loop-done.level.items c.in_ok-level.level.items c.loop-done.invariant made
 
 pub returns : goal.returns
 returns g c =

@@ -1,6 +1,7 @@
+use Rattle.std.proofs.lemmas.Grind.{common_steps}
+use Rattle.std.proofs.lemmas.Bool.Decides.{nat_tests}
 use Rattle.std.proofs.Common.{◌≡◌, ℕ, ◌-◌, ◌^◌, ◌==◌, ◌&&◌, ◌∙◌, Bool, true, false, [], sym, ap, arith, get_or, filter}
 use Rattle.std.specs.List.{range_with_len}
-use Rattle.std.proofs.lemmas.Bool.{and_from, and_left, and_right, eq-eqb, ne_eqb}
 use Rattle.tie_walk.specs.Steps.Choices.{may_choose}
 use Rattle.tie_walk.proofs.StepLemmas.{filter-left}
 use Rattle.tie_walk.proofs.WorthLemmas.{worth-most}
@@ -20,25 +21,10 @@ loop-c-preserved g c =
     let test : ℕ → Bool = λ (d : ℕ). may_choose step set d && (get_or worths d 0 == best && is_first_open step (get_or table d []) set d) in
     elim c.if-may_choose.branch [
       | then-may_choose+then-of-best+then-is_first_open w ↦
-          let free : may_choose step set k ≡ true = sym c.may_choose.ensures ∙ w.if-may_choose.true in
-          let worth : (get_or worths k 0 == best) ≡ true = eq-eqb (get_or worths k 0) best (sym w.of.ensures.value ∙ w.if-of-best.true) in
-          let first : is_first_open step (get_or table k []) set k ≡ true = ap (λ s. is_first_open step s set k) (sym w.class.ensures) ∙ sym w.is_first_open.ensures ∙ w.if-is_first_open.true in
-          let is : test k ≡ true = and_from (may_choose step set k) (get_or worths k 0 == best && is_first_open step (get_or table k []) set k) free
-          (and_from (get_or worths k 0 == best) (is_first_open step (get_or table k []) set k) worth first) in
+          let is : test k ≡ true = grind (arith, common_steps, nat_tests) in
           passes-more test k c.loop-c.ties c.if-may_choose.ties c.loop-c.auto.c is c.loop-c.invariant (w.ties-is ∙ w.with-ties.ensures)
       | else-may_choose w ↦
-          let is : test k ≡ false = elim w.else-may_choose.branch [
-            | else-may_choose-via-then-may_choose+then-of-best+else-is_first_open u ↦
-                let later : is_first_open step (get_or table k []) set k ≡ false = ap (λ s. is_first_open step s set k) (sym u.class.ensures) ∙ sym u.is_first_open.ensures ∙ u.if-is_first_open.false in
-                and_right (may_choose step set k) (get_or worths k 0 == best && is_first_open step (get_or table k []) set k)
-                (and_right (get_or worths k 0 == best) (is_first_open step (get_or table k []) set k) later)
-            | else-may_choose-via-then-may_choose+else-of-best u ↦
-                let less : get_or worths k 0 ≡ best → ⊥ = λ e. u.if-of-best.false (u.of.ensures.value ∙ e) in
-                and_right (may_choose step set k) (get_or worths k 0 == best && is_first_open step (get_or table k []) set k)
-                (and_left (get_or worths k 0 == best) (is_first_open step (get_or table k []) set k) (ne_eqb (get_or worths k 0) best less))
-            | else-may_choose-via-else-may_choose u ↦
-                and_left (may_choose step set k) (get_or worths k 0 == best && is_first_open step (get_or table k []) set k) (sym c.may_choose.ensures ∙ u.if-may_choose.false)
-          ] in
+          let is : test k ≡ false = grind (arith, common_steps, nat_tests) in
           w.ties-is ∙ c.loop-c.invariant ∙ sym (filter-left test k c.loop-c.auto.c is)
     ]
 

@@ -1,38 +1,23 @@
-use Rattle.std.proofs.Common.{◌∙◌, sym, get_or}
-use Rattle.std.proofs.lemmas.Bool.{both_ways}
-use Rattle.tie_families.specs.Steps.Levels.{has_settled}
-use Rattle.tie_families.proofs.StepLemmas.{settled-is, best-found, none-unsettled}
+use Rattle.std.proofs.lemmas.Grind.{common_steps}
+use Rattle.std.proofs.lemmas.Bool.Decides.{nat_tests}
+use Rattle.std.proofs.Common.{get_or, arith}
+use Rattle.tie_families.proofs.StepLemmas.{end-found}
 use Rattle.tie_families.proofs.levels.Levels.ties_and_end.Goals as goal
-use Rattle.tie_families.proofs.levels.Levels.ties_and_end.Goals.{then-is_settled, else-is_settled}
 
-pub ties-tied-requires-clause-best : goal.ties-tied-requires-clause-best
-ties-tied-requires-clause-best g c =
+pub returns-then-is_settled-clause-end : goal.returns-then-is_settled-clause-end
+returns-then-is_settled-clause-end g c =
     let s = c.args.self.now in
-    let e = s.profile.now in
-    let totals = c.worths-totals.result in
-    best-found s.step s.weights.now e.m c.m.result e.rows c.args.set (λ d. get_or totals d 0) c.best_worth-best.result c.m.ensures.value c.worths-totals.ensures c.best_worth-best.ensures
+    let is = end-found s.step s.weights.now s.profile.now.m c.m.result s.profile.now.rows c.args.set (λ d. get_or c.worths-totals.result d 0) c.best_worth-best.result c.m.ensures.value c.worths-totals.ensures c.best_worth-best.ensures in
+    grind (arith, common_steps, nat_tests)
 
-pub end-requires-clause-best : goal.end-requires-clause-best
-end-requires-clause-best g c =
+pub returns-then-shares_no_voter-clause-end : goal.returns-then-shares_no_voter-clause-end
+returns-then-shares_no_voter-clause-end g c =
     let s = c.args.self.now in
-    let e = s.profile.now in
-    let totals = c.worths-totals.result in
-    best-found s.step s.weights.now e.m c.m.result e.rows c.args.set (λ d. get_or totals d 0) c.best_worth-best.result c.m.ensures.value c.worths-totals.ensures c.best_worth-best.ensures
+    let is = end-found s.step s.weights.now s.profile.now.m c.m.result s.profile.now.rows c.args.set (λ d. get_or c.worths-totals.result d 0) c.best_worth-best.result c.m.ensures.value c.worths-totals.ensures c.best_worth-best.ensures in
+    grind (arith, common_steps, nat_tests)
 
-pub end-requires-clause-tied : goal.end-requires-clause-tied
-end-requires-clause-tied g c unsettled = elim c.if-is_settled.branch [
-  | then-is_settled w ↦ absurd (both_ways (has_settled c.args.self.now.step c.best_worth-best.result) unsettled (sym c.is_settled.ensures ∙ w.if-is_settled.true))
-  | else-is_settled w ↦ w.tied-is ∙ w.ties-tied.ensures
-]
-
-pub returns-clause-ties : goal.returns-clause-ties
-returns-clause-ties g c none =
+pub returns-clause-end : goal.returns-clause-end
+returns-clause-end g c =
     let s = c.args.self.now in
-    let e = s.profile.now in
-    let totals = c.worths-totals.result in
-    let best = best-found s.step s.weights.now e.m c.m.result e.rows c.args.set (λ d. get_or totals d 0) c.best_worth-best.result c.m.ensures.value c.worths-totals.ensures c.best_worth-best.ensures in
-    let unsettled = sym (settled-is s.step s.weights.now e.m e.rows c.args.set c.best_worth-best.result best) ∙ none-unsettled s.step s.weights.now e.m e.rows c.args.set (sym c.end.ensures ∙ none) in
-    elim c.if-is_settled.branch [
-      | then-is_settled w ↦ absurd (both_ways (has_settled s.step c.best_worth-best.result) unsettled (sym c.is_settled.ensures ∙ w.if-is_settled.true))
-      | else-is_settled w ↦ w.tied-is ∙ w.ties-tied.ensures
-    ]
+    let is = end-found s.step s.weights.now s.profile.now.m c.m.result s.profile.now.rows c.args.set (λ d. get_or c.worths-totals.result d 0) c.best_worth-best.result c.m.ensures.value c.worths-totals.ensures c.best_worth-best.ensures in
+    grind (arith, common_steps, nat_tests)
