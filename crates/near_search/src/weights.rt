@@ -25,13 +25,15 @@ pub(crate) const FIRST_WEIGHT: u64 = 1 << 20;
 /// The maximum of a moved weight.
 const MOST_WEIGHT: u64 = 1 << 40;
 
-/// How long weights are moved at a node. With 10 and with 20 rounds, some elections took three times as long.
+/// How long weights are moved at a node. With 10 and with 20 rounds, some elections took three times as long. If moving
+/// went back to the best round, rankings round four centres took up to three times as long.
 const NODE: Effort = Effort {
     rounds: 15,
     pace: WHOLE,
     least_pace: 0,
     patience: u8::MAX,
     large_gap: None,
+    goes_back: false,
 };
 
 /// A step aims at weighted needs that exceed the supports by the total divided by this. With 8, voters and candidates in

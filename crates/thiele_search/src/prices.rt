@@ -37,6 +37,7 @@ pub(crate) const NODE: Effort = Effort {
     least_pace: 20,
     patience: 4,
     large_gap: None,
+    goes_back: true,
 };
 
 /// For the same node after a candidate was tried and left.
@@ -50,6 +51,7 @@ fn root(units: u128) -> Effort {
         least_pace: 1,
         patience: 20,
         large_gap: Some(units / LARGE_GAP),
+        goes_back: true,
     }
 }
 

@@ -49,6 +49,8 @@ pub struct Effort {
     /// The largest gap with which moving goes on after many rounds. If there is no such limit, moving ends as soon as
     /// the gap closes too slowly.
     pub large_gap: Option<u128>,
+    /// Whether moving ends with the multipliers whose gap was the smallest, and not with the last ones.
+    pub goes_back: bool,
 }
 
 /// What all completions of a node bring that reach a value.
@@ -158,8 +160,8 @@ pub fn narrowed<B: RowBound, A: Allocator>(
         let best = constraint.best(&here);
         let gap = bound.gap(&constraint, best);
         match progress.next(gap, best) {
-            Next::Smaller => multipliers.keep(),
-            Next::Larger => {}
+            Next::Smaller if effort.goes_back => multipliers.keep(),
+            Next::Smaller | Next::Larger => {}
             Next::Back => multipliers.restore(),
             Next::End => break,
         }
@@ -169,7 +171,9 @@ pub fn narrowed<B: RowBound, A: Allocator>(
         }
         multipliers.step(progress.length(gap, square));
     }
-    multipliers.restore();
+    if effort.goes_back {
+        multipliers.restore();
+    }
     progress.end(Some(here.free))
 }
 
