@@ -1,4 +1,4 @@
-use Rattle.std.proofs.Common.{◌≡◌, ◌+◌, ◌*◌, ◌≤◌, arith, slice_index, sum_by}
+use Rattle.std.proofs.Common.{◌+◌, ◌*◌, ◌≤◌, arith, slice_index, sum_by}
 use Rattle.std.proofs.Math.Nat.{mul-le-mul_left}
 use Rattle.ballot_base.specs.CandSet.{common_members}
 use Rattle.ballot_base.specs.Increments.{increments}
