@@ -9,10 +9,11 @@ use ballot_base::CandSet;
 
 /// The minimum number of hits with which a ballot of this size is no farther than `most` from a committee of `k`.
 pub fn hits_needed(size: u8, k: u8, most: u8) -> u8
+    requires { size + k < 2 ^ 8 }
     ensures { result ≡ hits_needed size k most }
 {
-    let apart = (u32::from(size) + u32::from(k)).saturating_sub(u32::from(most));
-    ((apart + 1) / 2) as u8
+    let apart = (size + k).saturating_sub(most);
+    apart / 2 + apart % 2
 }
 
 /// The number of hits that the ballot still needs, if `left` candidates are still to join the set. Counting a distance
@@ -20,6 +21,7 @@ pub fn hits_needed(size: u8, k: u8, most: u8) -> u8
 pub(crate) fn still_needed(ballot: CandSet, set: CandSet, left: u8, most: u8) -> u8
     requires ballot { IsIncreasing 1 most_candidates ballot }
     requires set { IsIncreasing 1 most_candidates set }
+    requires few { left ≤ most_candidates }
     ensures { result ≡ hits_needed (length ballot) (length set + left) most - hits ballot set }
 {
     hits_needed(ballot.distance(set), left, most)

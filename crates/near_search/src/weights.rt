@@ -5,7 +5,7 @@
 //! constraints, 1968). Any weights are right. A ballot weighs by the share that it needs of its free candidates. If that
 //! pays, weights are moved instead (`tie_search::multipliers`). With weights by the share, 64 candidates and 20 seats
 //! did not end within 12 s if voters and candidates lie on a line. With moved ones they take 0.01 s.
-ghost use Rattle.std.specs.Prelude.{◌≡◌, ℕ, ◌+◌, ◌-◌, ◌^◌, ◌≤◌, length, slice_index};
+ghost use Rattle.std.specs.Prelude.{◌≡◌, ℕ, ◌+◌, ◌-◌, ◌^◌, ◌≤◌, false, length, slice_index};
 ghost use Rattle.ballot_base.specs.Limits.{most_candidates};
 ghost use Rattle.ballot_base.specs.Lists.{IsIncreasing};
 ghost use Rattle.tie_search.specs.Completions.{IsNode};
@@ -14,7 +14,7 @@ ghost use Rattle.tie_walk.specs.Values.{closeness};
 ghost use Rattle.near_search.specs.Steps.Near.{AreBallots, AreBallots-prop, AreWeighted, share_parts};
 
 use crate::needs::still_needed;
-use ballot_base::{CandSet, PLACES, Profile, Worths};
+use ballot_base::{CandSet, MOST_CANDIDATES, PLACES, Profile, Worths};
 use std::alloc::Allocator;
 use tie_search::multipliers::{Constraint, Effort, Gap, Multipliers, RowBound, WHOLE, narrowed};
 use tie_search::{Moves, Node};
@@ -122,7 +122,7 @@ impl<A: Allocator + Copy> NeedSearch<'_, A> {
     {
         let mut due = 0;
         let mut worths = Worths::none();
-        if let Weighing::Nothing = &self.weighing {
+        if self.is_idle(node) {
             return Constraint {
                 paid: 0,
                 due,
@@ -144,6 +144,13 @@ impl<A: Allocator + Copy> NeedSearch<'_, A> {
             due,
             worths,
         }
+    }
+
+    /// Whether nothing is weighed at a node: it does not pay, or no committee is so large.
+    fn is_idle(&self, node: &Node) -> bool
+        ensures { result ≡ false → node.now.left ≤ most_candidates }
+    {
+        matches!(&self.weighing, Weighing::Nothing) || node.left > MOST_CANDIDATES
     }
 
     /// The weight of row i, whose ballot needs some of its free candidates.
@@ -185,6 +192,9 @@ impl<A: Allocator + Copy> RowBound for NeedSearch<'_, A> {
             return 0;
         };
         let mut square: u128 = 0;
+        if self.is_idle(node) {
+            return square;
+        }
         for i in 0..self.profile.rows() {
             let (ballot, _voters) = self.profile.row(i);
             let needed = still_needed(ballot, node.set, node.left, self.most);

@@ -18,6 +18,7 @@ still_needed-needed-requires g c =
     record {
       ballot = IsIncreasing-higher 1 e.m most_candidates c.row-ballot.result.0 search.size (ballot-found e.m e.rows c.loop-i.i c.row-ballot.result search.ballots c.row-ballot.ensures);
       set = IsIncreasing-higher 1 e.m most_candidates c.args.node.now.set search.size c.requires.set;
+      few = c.is_idle.ensures c.if-is_idle.false;
     }
 
 -- what a ballot adds to the whole

@@ -12,3 +12,6 @@ still_needed-needed-requires-clause-ballot g c =
 pub still_needed-needed-requires-clause-set : goal.still_needed-needed-requires-clause-set
 still_needed-needed-requires-clause-set g c =
     IsIncreasing-higher 1 c.args.self.now.profile.now.m most_candidates c.args.node.now.set c.args.self.now.size c.requires.is_node.set_within
+
+pub still_needed-needed-requires-clause-few : goal.still_needed-needed-requires-clause-few
+still_needed-needed-requires-clause-few g c = c.is_idle.ensures c.if-is_idle.false
