@@ -26,7 +26,7 @@ pub(crate) const FIRST_WEIGHT: u64 = 1 << 20;
 const MOST_WEIGHT: u64 = 1 << 40;
 
 /// How long weights are moved at a node. With 10 and with 20 rounds, some elections took three times as long. If moving
-/// went back to the best round, rankings round four centres took up to three times as long.
+/// went back to the best round, rankings round four centres took more than twice as long.
 const NODE: Effort = Effort {
     rounds: 15,
     pace: WHOLE,

@@ -7,8 +7,8 @@
 //! `SearchWinners` lists the winners. It asks a search for each of them, so it goes only where a winner is. A walk over
 //! plain bounds enters a prefix in vain if its bound reaches the highest value and no committee below it does.
 //!
-//! The modules `found`, `node` and `moves` have the parts of a search: what was found so far, a set with the candidates
-//! that are free to join it, and where it pays to move multipliers.
+//! The modules `found`, `node`, `multipliers` and `moves` have the parts of a search: what was found so far, a set with
+//! the candidates that are free to join it, a bound over rows whose multipliers are moved, and where moving them pays.
 #![tactic(auto)]
 
 mod asking;
