@@ -2,9 +2,9 @@
 //!
 //! All needs are added up, each with a weight. A set is given up if the sum exceeds what the best free candidates can
 //! give. A candidate leaves if every completion with it falls short (`laws::weighted_needs`; Glover, Surrogate
-//! constraints, 1968). Any weights are right. A ballot weighs by the share that it needs of its free candidates. If that
-//! pays, weights are moved instead (`tie_search::multipliers`). With weights by the share, 64 candidates and 20 seats
-//! did not end within 12 s if voters and candidates lie on a line. With moved ones they take 0.01 s.
+//! constraints, 1968). Any weights are right. A ballot weighs by the share that it needs of its free candidates. If
+//! that pays, weights are moved instead (`tie_search::multipliers`). With weights by the share, 64 candidates and 20
+//! seats did not end within 12 s if voters and candidates lie on a line. With moved ones they take 0.01 s.
 ghost use Rattle.std.specs.Prelude.{◌≡◌, ℕ, ◌+◌, ◌-◌, ◌^◌, ◌≤◌, false, length, slice_index};
 ghost use Rattle.ballot_base.specs.Limits.{most_candidates};
 ghost use Rattle.ballot_base.specs.Lists.{IsIncreasing};

@@ -29,7 +29,8 @@ left_by value m k (branch ∷ above) = left_by value m k above ++ winners_of val
 -- how many lists of more than `size` and at most k of the candidates 1 to m begin one of the committees
 abbrev pub longer_beginnings : ℕ → ℕ → ℕ → List (List ℕ) → ℕ
 longer_beginnings m k size committees =
-    sum_by (λ s. length (filter (begins_some committees) (increasing_lists 1 m s))) (range_with_len (size + 1) (k - size))
+    sum_by (λ s. length (filter (begins_some committees) (increasing_lists 1 m s)))
+    (range_with_len (size + 1) (k - size))
 
 -- how many sets are still to be entered for the winners that complete the branch
 unfoldable pub entries : (List ℕ → ℕ) → ℕ → ℕ → Branch → ℕ
