@@ -84,6 +84,17 @@ with_member-eq x xs n h = rw (le-ltb n x (omega (arith, h)), eq-eqb n x h)
 pub with_member-gt : (x : ℕ) (xs : List ℕ) (n : ℕ) → x < n → with_member (x ∷ xs) n ≡ x ∷ with_member xs n
 with_member-gt x xs n h = rw (le-ltb n x (omega arith), ne_eqb n x (λ e. omega arith))
 
+-- a set is longer by a new member
+pub length-with_member : (set : List ℕ) (n : ℕ) → has_member set n ≡ false → length (with_member set n) ≡ length set + 1
+length-with_member [] n outside = refl
+length-with_member (x ∷ xs) n outside = elim (cases_order n x) [
+  | inl same ↦ absurd (let e : true ≡ false = sym (has_member_head x xs) ∙ ap (has_member (x ∷ xs)) (sym same) ∙ outside in cc)
+  | inr (inl less) ↦ ap length (with_member-lt x xs n less) ∙ omega arith
+  | inr (inr more) ↦
+      let rest : has_member xs n ≡ false = sym (has_member_tail x n xs (λ e. omega (arith, e, more))) ∙ outside in
+      ap length (with_member-gt x xs n more) ∙ omega (arith, length-with_member xs n rest)
+]
+
 pub has_member-with_member : (set : List ℕ) (n k : ℕ) → has_member (with_member set n) k ≡ ((n == k) || has_member set k)
 has_member-with_member [] n k = refl
 has_member-with_member (x ∷ xs) n k =

@@ -10,13 +10,13 @@ use Rattle.ballot_base.proofs.Increasing.{IsIncreasing-filter, has_member-filter
 use Rattle.tie_walk.specs.Values.{distance, greatest_distance, closeness}
 use Rattle.tie_walk.proofs.Distances.{ballot-found, common-least_right, common-turned, distance-sizes, greatest_distance-most}
 use Rattle.tie_walk.proofs.RowSums.{length-common}
-use Rattle.tie_search.specs.Completions.{IsNode, IsCompletion, IsReaching, IsOutOfReach}
-use Rattle.tie_search.proofs.CompletionLemmas.{added, added-free, added-increasing, added-size, completion-few, completion-members, hits-same}
-use Rattle.tie_search.proofs.NarrowedLemmas.{narrowed-by}
-use Rattle.tie_search.proofs.HitLemmas.{hits-append, hits-more}
+use Rattle.row_bounds.specs.Completions.{IsNode, IsCompletion, IsReaching, IsOutOfReach}
+use Rattle.row_bounds.proofs.CompletionLemmas.{added, added-free, added-increasing, added-size, completion-few, completion-members, hits-same}
+use Rattle.row_bounds.proofs.NarrowedLemmas.{narrowed-by}
+use Rattle.row_bounds.proofs.HitLemmas.{hits-append, hits-more}
 use Rattle.near_search.specs.Needs.{hits_needed}
 use Rattle.tie_search.specs.Steps.Descent.{AreChoices}
-use Rattle.tie_search.specs.Steps.Narrowed.{IsNarrowed}
+use Rattle.row_bounds.specs.Steps.Narrowed.{IsNarrowed}
 
 -- ---- one ballot
 

@@ -13,13 +13,13 @@ use Rattle.tie_walk.specs.Values.{closeness, greatest_distance}
 use Rattle.std.specs.Prelude.{MatchOption, Option}
 use Rattle.ballot_base.specs.Worths.{AreTooLow, AreWanted}
 use Rattle.ballot_base.specs.Limits.{most_candidates}
-use Rattle.tie_search.specs.Completions.{IsNode, IsCompletion, IsOutOfReach}
-use Rattle.tie_search.specs.Steps.Narrowed.{IsNarrowed}
-use Rattle.tie_search.proofs.NarrowedLemmas.{narrowed-members}
+use Rattle.row_bounds.specs.Completions.{IsNode, IsCompletion, IsOutOfReach}
+use Rattle.row_bounds.specs.Steps.Narrowed.{IsNarrowed}
+use Rattle.row_bounds.proofs.NarrowedLemmas.{narrowed-members}
 use Rattle.near_search.specs.Needs.{hits_needed, weighted_needs, weighted_support}
 use Rattle.near_search.specs.Steps.Near.{AreWeighted}
-use Rattle.tie_search.proofs.CompletionLemmas.{added, added-free, added-increasing, added-size, completion-members, hits-same}
-use Rattle.tie_search.proofs.HitLemmas.{hits-append, hits-turned}
+use Rattle.row_bounds.proofs.CompletionLemmas.{added, added-free, added-increasing, added-size, completion-members, hits-same}
+use Rattle.row_bounds.proofs.HitLemmas.{hits-append, hits-turned}
 use Rattle.near_search.proofs.NeedLemmas.{needs-met, value-near}
 use Rattle.ballot_base.proofs.Sums.{sum-member, sum-part, sum-threshold}
 

@@ -5,7 +5,7 @@ ghost use Rattle.ballot_base.specs.Ballots.{Row, hits};
 ghost use Rattle.ballot_base.specs.Lists.{IsIncreasing};
 ghost use Rattle.ballot_base.specs.CandSet.{has_member};
 ghost use Rattle.tie_walk.specs.Values.{greatest_distance};
-ghost use Rattle.tie_search.specs.Completions.{IsNode, IsCompletion};
+ghost use Rattle.row_bounds.specs.Completions.{IsNode, IsCompletion};
 ghost use Rattle.near_search.specs.Needs.{hits_needed, weighted_needs, weighted_support};
 
 /// Under minimax approval voting, no ballot is farther than `most` from a committee of `k` exactly if each ballot has

@@ -10,8 +10,9 @@ use crate::weights::{FIRST_WEIGHT, Shares};
 use ballot_base::{CandSet, Clones, Profile};
 use std::alloc::{AllocError, Allocator, Global};
 use std::marker::Model;
-use tie_search::multipliers::Multipliers;
-use tie_search::{Moves, Node, Searchable, Tied, descent};
+use row_bounds::multipliers::Multipliers;
+use row_bounds::{Moves, Node};
+use tie_search::{Searchable, Tied, descent};
 use tie_walk::{MinimaxTally, Tally};
 
 /// A search among the committees of a profile under minimax approval voting. A committee's value is the number of

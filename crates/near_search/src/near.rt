@@ -11,7 +11,7 @@ ghost use Rattle.std.specs.Prelude.{◌≡◌, ℕ, ◌-◌, ◌≤◌, length, 
 ghost use Rattle.ballot_base.specs.Clones.{AreClones, clones_among};
 ghost use Rattle.ballot_base.specs.Limits.{most_candidates};
 ghost use Rattle.ballot_base.specs.Worths.{AreTooLow, AreWanted};
-ghost use Rattle.tie_search.specs.Completions.{IsNode};
+ghost use Rattle.row_bounds.specs.Completions.{IsNode};
 ghost use Rattle.tie_walk.specs.Values.{closeness};
 ghost use Rattle.near_search.specs.Steps.Near.{AreBallots, AreBallots-prop, AreBranches, IsHopeless, IsNearPlan};
 
@@ -19,9 +19,9 @@ use crate::needs::still_needed;
 use crate::weights::{NeedSearch, Shares, Weighing};
 use ballot_base::{CandSet, Clones, Profile, Worths};
 use std::alloc::Allocator;
+use row_bounds::multipliers::Multipliers;
+use row_bounds::{Moves, Node};
 use tie_search::descent::{Narrowing, Plan};
-use tie_search::multipliers::Multipliers;
-use tie_search::{Moves, Node};
 use tie_walk::{MinimaxTally, Tally};
 
 /// With fewer seats left than this, going through the sets takes less time than weighing needs, although weights rule

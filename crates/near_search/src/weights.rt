@@ -8,16 +8,16 @@
 ghost use Rattle.std.specs.Prelude.{◌≡◌, ℕ, ◌+◌, ◌-◌, ◌^◌, ◌≤◌, false, length, slice_index};
 ghost use Rattle.ballot_base.specs.Limits.{most_candidates};
 ghost use Rattle.ballot_base.specs.Lists.{IsIncreasing};
-ghost use Rattle.tie_search.specs.Completions.{IsNode};
-ghost use Rattle.tie_search.specs.Steps.Narrowed.{Narrows};
+ghost use Rattle.row_bounds.specs.Completions.{IsNode};
+ghost use Rattle.row_bounds.specs.Steps.Narrowed.{Narrows};
 ghost use Rattle.tie_walk.specs.Values.{closeness};
 ghost use Rattle.near_search.specs.Steps.Near.{AreBallots, AreBallots-prop, AreWeighted, share_parts};
 
 use crate::needs::still_needed;
 use ballot_base::{CandSet, MOST_CANDIDATES, PLACES, Profile, Worths};
 use std::alloc::Allocator;
-use tie_search::multipliers::{Constraint, Effort, Gap, Multipliers, RowBound, WHOLE, narrowed};
-use tie_search::{Moves, Node};
+use row_bounds::multipliers::{Constraint, Effort, Gap, Multipliers, RowBound, WHOLE, narrowed};
+use row_bounds::{Moves, Node};
 
 /// Each moved weight begins with this number: enough that rounding matters little.
 pub(crate) const FIRST_WEIGHT: u64 = 1 << 20;

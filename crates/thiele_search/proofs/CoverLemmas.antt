@@ -8,9 +8,8 @@ use Rattle.ballot_base.specs.Ballots.{Row, hits}
 use Rattle.ballot_base.specs.Increments.{increments}
 use Rattle.ballot_base.specs.declared.increments.ThieleRule.TheVariants.{Cc}
 use Rattle.ballot_base.proofs.WeightLemmas.{increments-past, increments-within, weight-most}
-use Rattle.tie_walk.specs.Values.{Thiele, thiele_value}
+use Rattle.tie_walk.specs.Values.{Thiele, tally_value, thiele_value}
 use Rattle.tie_walk.proofs.TableLemmas.{sum-take_more}
-use Rattle.tie_search.specs.Completions.{tally_value}
 use Rattle.thiele_search.specs.Steps.Columns.{block_voters, total, approves_some, voter_ballot, voters_of, AreColumnsOf}
 use Rattle.thiele_search.proofs.ColumnLemmas.{total-voters, voters-sum}
 

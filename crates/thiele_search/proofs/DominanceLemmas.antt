@@ -15,11 +15,10 @@ use Rattle.ballot_base.specs.declared.increments.ThieleRule.{ThieleRule}
 use Rattle.ballot_base.proofs.CloneLemmas.{is_both}
 use Rattle.ballot_base.proofs.WeightLemmas.{increments-fall}
 use Rattle.tie_walk.specs.Sequences.{gain, supporters, weight}
-use Rattle.tie_walk.specs.Values.{Thiele}
+use Rattle.tie_walk.specs.Values.{Thiele, tally_value}
 use Rattle.tie_walk.proofs.TightLemmas.{hits-most}
-use Rattle.tie_search.specs.Completions.{tally_value}
 use Rattle.tie_search.proofs.CloneLemmas.{back, exchanged, gone, less, less-out, less-up}
-use Rattle.tie_search.proofs.CompletionLemmas.{without-shorter}
+use Rattle.row_bounds.proofs.CompletionLemmas.{without-shorter}
 use Rattle.thiele_search.proofs.WholeLemmas.{value-with}
 use Rattle.thiele_search.specs.Steps.Dominance.{EachHitAdds, is_follower}
 

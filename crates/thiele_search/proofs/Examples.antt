@@ -1,29 +1,6 @@
--- The definitions of prices and of pairs, worked out by hand.
-use Rattle.std.proofs.Common.{◌≡◌, ◌/◌, zero, suc, [], ◌∷◌, refl, length, lit≤, arith}
-use Rattle.thiele_search.specs.Pairs.{IsMajorant, all_kept, all_overlap, all_worth, pair_sum, row_sum, worth_beside}
-use Rattle.thiele_search.specs.Prices.{IsKept}
+-- The definitions of columns, worked out by hand.
+use Rattle.std.proofs.Common.{◌≡◌, [], ◌∷◌, refl}
 use Rattle.thiele_search.specs.Steps.Columns.{voter_ballot, given, total, voters_of}
-
--- ---- prices: under proportional approval voting, in sixths, a voter gives 6 for a hit, 3 more for a second and 2 more
--- for a third, and each hit costs 4
-
--- a voter without a hit yet keeps 2, with one hit
-kept-first : IsKept (6 ∷ 3 ∷ 2 ∷ []) 1 1 0 2 2 4
-kept-first zero few = lit≤ tt
-kept-first (suc zero) few = lit≤ tt
-kept-first (suc (suc zero)) few = lit≤ tt
-kept-first (suc (suc (suc h))) few = absurd (omega (arith, few))
-
--- a voter with a hit keeps the 6 of that
-kept-second : IsKept (6 ∷ 3 ∷ 2 ∷ []) 1 1 1 2 6 4
-kept-second zero few = lit≤ tt
-kept-second (suc zero) few = lit≤ tt
-kept-second (suc (suc zero)) few = lit≤ tt
-kept-second (suc (suc (suc h))) few = absurd (omega (arith, few))
-
--- the price of 2, if it costs the two voters who approve 1 and 2 3 each, and the one who approves 2 alone 6
-price-two : all_worth (λ row. 6 / length row.0) ((1 ∷ 2 ∷ [], 2) ∷ (2 ∷ [], 1) ∷ []) 2 ≡ 12
-price-two = refl
 
 voters-three : voters_of ((1 ∷ 2 ∷ [], 2) ∷ (3 ∷ [], 1) ∷ []) ≡ (1 ∷ 2 ∷ []) ∷ (1 ∷ 2 ∷ []) ∷ (3 ∷ []) ∷ []
 voters-three = refl
@@ -36,40 +13,3 @@ given-second = refl
 given-by_all : total (λ v. given (6 ∷ 3 ∷ 2 ∷ []) (2 ∷ []) 1 (voter_ballot ((1 ∷ 2 ∷ []) ∷ (1 ∷ 2 ∷ []) ∷ (3 ∷ []) ∷ []) v)) 4 ≡ 6
 unfolding total
 given-by_all = refl
-
--- ---- pairs of members: under proportional approval voting, in sixths, a voter gives 6, 9 and 11 for one, two and three
--- hits
-
--- 7 h - h * h is 6 at one hit, 10 at two and 12 at three
-majorant-three : IsMajorant (6 ∷ 3 ∷ 2 ∷ []) 1 1 0 3 0 7 1
-majorant-three zero few = lit≤ tt
-majorant-three (suc zero) few = lit≤ tt
-majorant-three (suc (suc zero)) few = lit≤ tt
-majorant-three (suc (suc (suc zero))) few = lit≤ tt
-majorant-three (suc (suc (suc (suc h)))) few = absurd (omega (arith, few))
-
--- two voters approve 1 and 2, with the worth 7 and the overlap 1, and one voter approves 2
-kept-pairs : all_kept (λ row. length row.0) ((1 ∷ 2 ∷ [], 2) ∷ (2 ∷ [], 1) ∷ []) ≡ 5
-kept-pairs = refl
-
-worth-pairs : all_worth (λ row. 7) ((1 ∷ 2 ∷ [], 2) ∷ (2 ∷ [], 1) ∷ []) 2 ≡ 21
-worth-pairs = refl
-
-overlap-pairs : all_overlap (λ row. 1) ((1 ∷ 2 ∷ [], 2) ∷ (2 ∷ [], 1) ∷ []) 1 2 ≡ 2
-overlap-pairs = refl
-
--- 2 with itself is on all three ballots
-overlap-self : all_overlap (λ row. 1) ((1 ∷ 2 ∷ [], 2) ∷ (2 ∷ [], 1) ∷ []) 2 2 ≡ 3
-overlap-self = refl
-
--- 1 with itself 2, 2 with itself 3, and both pairs of the two 2 each
-pairs-both : pair_sum (all_overlap (λ row. 1) ((1 ∷ 2 ∷ [], 2) ∷ (2 ∷ [], 1) ∷ [])) (1 ∷ 2 ∷ []) ≡ 9
-pairs-both = refl
-
--- with two seats left, the worth 20 of a candidate, raised by 10, is less by twice an overlap of 3
-beside-two : worth_beside (λ n. 20) (λ i j. 3) 2 10 1 2 ≡ 24
-beside-two = refl
-
--- 24 for the candidate itself, the threshold 22 for one of the others, and 2 that each of the two is above it
-sum-row : row_sum (λ n. 20) (λ i j. 3) (1 ∷ 2 ∷ 3 ∷ []) 2 10 22 1 ≡ 50
-sum-row = refl

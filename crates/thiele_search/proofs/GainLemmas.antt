@@ -1,6 +1,7 @@
 -- The bound of a node by gains, under a Thiele rule.
 use Rattle.std.proofs.Common.{◌≡◌, ℕ, ◌+◌, ◌-◌, ◌^◌, ◌≤◌, ◌==◌, ◌||◌, ◌∙◌, Bool, true, false, List, [], ◌∷◌, ◌++◌, refl, sym, ap, arith, get_or, sum_by}
 use Rattle.std.proofs.lemmas.List.{append-nil}
+use Rattle.std.proofs.Math.Bool.{or-false, or_comm}
 use Rattle.std.proofs.lemmas.List.Folds.{list_any-append}
 use Rattle.ballot_base.specs.Limits.{most_members}
 use Rattle.ballot_base.specs.CandSet.{common_members, has_member, with_member}
@@ -9,16 +10,15 @@ use Rattle.tie_walk.specs.Ceilings.{IsSubmodular, gain_at}
 use Rattle.ballot_base.specs.Ballots.{IsElection}
 use Rattle.ballot_base.specs.Increments.{increments}
 use Rattle.tie_walk.specs.Sequences.{gain}
-use Rattle.tie_walk.specs.Values.{Thiele}
+use Rattle.tie_walk.specs.Values.{Thiele, tally_value}
 use Rattle.tie_walk.proofs.Gains.{thiele-gain, thiele-most}
 use Rattle.tie_walk.proofs.TableLemmas.{increments_sum-most, sum-take-le}
 use Rattle.tie_walk.proofs.Submodular.{gains-bound, thiele_rule-submodular}
-use Rattle.tie_search.specs.Completions.{IsCompletion, IsNode, tally_value}
-use Rattle.tie_search.proofs.CompletionLemmas.{added, added-free, completion-members, thiele-same}
-use Rattle.tie_search.proofs.SearchLemmas.{push-same}
+use Rattle.row_bounds.specs.Completions.{IsCompletion, IsNode}
+use Rattle.row_bounds.proofs.CompletionLemmas.{added, added-free, completion-members}
 use Rattle.thiele_search.specs.Steps.Aided.{IsValued}
-use Rattle.thiele_search.proofs.PairBounds.PairLemmas.{sum-less}
-use Rattle.thiele_search.proofs.WholeLemmas.{value-with}
+use Rattle.thiele_bounds.proofs.PairBounds.PairLemmas.{sum-less}
+use Rattle.thiele_search.proofs.WholeLemmas.{thiele-same, value-with}
 
 -- no value is too large to add to
 value-most : (tally : Thiele) (set : List ℕ) → IsElection tally.election → tally.k ≤ most_members → tally_value tally set ≤ 2 ^ 116
@@ -43,6 +43,10 @@ valued-more tally set free gains value n x is is_node here are same = record {
 }
 
 module _ (value : List ℕ → ℕ) (falls : IsSubmodular value) (same : (xs ys : List ℕ) → ((n : ℕ) → has_member xs n ≡ has_member ys n) → value xs ≡ value ys) where
+  push-same : (set : List ℕ) (n : ℕ) → value (set ++ n ∷ []) ≡ value (with_member set n)
+  push-same set n = same (set ++ n ∷ []) (with_member set n) (λ x.
+      list_any-append (λ y. y == x) set (n ∷ []) ∙ ap (λ b. has_member set x || b) (or-false (n == x)) ∙ or_comm (has_member set x) (n == x) ∙ sym (has_member-with_member set n x))
+
   -- each member that is added brings its gain at most
   pub node-gains : (m : ℕ) (set free : List ℕ) (left : ℕ) (committee : List ℕ) → IsNode m set free → IsCompletion m set free left committee
       → value committee ≤ value set + sum_by (gain_at value set) (common_members free committee)
@@ -51,11 +55,11 @@ module _ (value : List ℕ → ℕ) (falls : IsSubmodular value) (same : (xs ys 
       let is : value committee ≡ value (set ++ more) = same committee (set ++ more) (completion-members m set free left committee is_node whole) in
       let none : set ++ [] ≡ set = append-nil set in
       let step : value (set ++ more) ≤ value set + sum_by (λ n. value (set ++ n ∷ []) - value set) more = rw none at (gains-bound value falls set [] more) in
-      omega (arith, is, step, sum-less (λ n. value (set ++ n ∷ []) - value set) (gain_at value set) more (λ n in_. omega (arith, push-same value falls same set n)))
+      omega (arith, is, step, sum-less (λ n. value (set ++ n ∷ []) - value set) (gain_at value set) more (λ n in_. omega (arith, push-same set n)))
 
   push-twice : (set : List ℕ) (x n : ℕ) → value ((set ++ x ∷ []) ++ n ∷ []) ≡ value (with_member (with_member set x) n)
   push-twice set x n =
-      push-same value falls same (set ++ x ∷ []) n
+      push-same (set ++ x ∷ []) n
       ∙ same (with_member (set ++ x ∷ []) n) (with_member (with_member set x) n) (λ y.
       has_member-with_member (set ++ x ∷ []) n y
       ∙ ap (λ b. (n == y) || b) (list_any-append (λ z. z == y) set (x ∷ []) ∙ swap (has_member set y) (x == y) ∙ sym (has_member-with_member set x y))
@@ -69,7 +73,7 @@ module _ (value : List ℕ → ℕ) (falls : IsSubmodular value) (same : (xs ys 
 
   -- a gain is no larger after a candidate has joined
   pub gain-falls : (set : List ℕ) (x n : ℕ) → gain_at value (with_member set x) n ≤ gain_at value set n
-  gain-falls set x n = omega (arith, falls set (x ∷ []) n, push-twice set x n, push-same value falls same set x, push-same value falls same set n)
+  gain-falls set x n = omega (arith, falls set (x ∷ []) n, push-twice set x n, push-same set x, push-same set n)
 
 -- the gains at a set are those of the rule
 pub gain-same : (tally : Thiele) (set free gains : List ℕ) → IsElection tally.election → IsNode tally.election.m set free

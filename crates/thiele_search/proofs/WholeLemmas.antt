@@ -8,12 +8,24 @@ use Rattle.ballot_base.specs.Ballots.{Row, IsElection, hits}
 use Rattle.ballot_base.specs.Increments.{increments}
 use Rattle.ballot_base.proofs.Increasing.{has_member-with_member}
 use Rattle.tie_walk.specs.Sequences.{gain}
-use Rattle.tie_walk.specs.Values.{Thiele, thiele_value}
+use Rattle.tie_walk.specs.Values.{Thiele, tally_value, thiele_value}
 use Rattle.tie_walk.proofs.Gains.{thiele-gain}
 use Rattle.tie_walk.proofs.Submodular.{hits-more}
 use Rattle.tie_walk.proofs.TableLemmas.{sum-take_more}
-use Rattle.tie_search.specs.Completions.{IsOutOfReach, tally_value}
-use Rattle.tie_search.proofs.CompletionLemmas.{thiele-same}
+use Rattle.row_bounds.specs.Completions.{IsOutOfReach}
+use Rattle.row_bounds.proofs.CompletionLemmas.{hits-same}
+
+-- values see only the members
+pub thiele-same : (w : List ℕ) (rows : List Row) (xs ys : List ℕ) → ((n : ℕ) → has_member xs n ≡ has_member ys n) → thiele_value w rows xs ≡ thiele_value w rows ys
+thiele-same w [] xs ys same = refl
+thiele-same w (row ∷ rows) xs ys same =
+    omega (
+      arith,
+      ap (λ h. row.1 * sum (take h w)) (hits-same row.0 xs ys same),
+      thiele-same w rows xs ys same,
+      sum_by-cons (λ (r : Row). r.1 * sum (take (hits r.0 xs) w)) row rows,
+      sum_by-cons (λ (r : Row). r.1 * sum (take (hits r.0 ys) w)) row rows,
+    )
 
 -- more hits give no less
 more-hits : (w : List ℕ) (x d : ℕ) → sum (take x w) ≤ sum (take (x + d) w)

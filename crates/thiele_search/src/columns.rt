@@ -16,7 +16,7 @@ ghost use Rattle.thiele_search.specs.Steps.Columns.{block_voters, most_blocks, t
 
 use ballot_base::{CandSet, Increments, MOST_MEMBERS, PLACES, Profile, ThieleRule, Worths};
 use std::alloc::{AllocError, Allocator};
-use tie_search::Node;
+use row_bounds::Node;
 
 /// The number of voters who share a word.
 const BLOCK_VOTERS: usize = 64;

@@ -2,8 +2,8 @@
 //!
 //! `ThieleSearch` finds a committee of at least a given value, which consists of a set and some of the free candidates.
 //! One search also lists all tied committees, if they are few. `tie_search::descent` goes from set to set, and `search`
-//! narrows each set. Three bounds serve it: gains, which `columns` counts for 64 voters at once; `prices`, made of
-//! `tie_search::multipliers`; and `pairs` of candidates, made of `majorant`s. `tie_search::SearchWinners` asks for one
+//! narrows each set. Three bounds serve it: gains, which `columns` counts for 64 voters at once, and the prices and pairs of
+//! `thiele_bounds`. `tie_search::SearchWinners` asks for one
 //! winner after another.
 //!
 //! A `SearchMemory` holds all memory that such a search takes. So a caller can take it before anything is written, and
@@ -17,9 +17,6 @@ mod columns;
 mod dominance;
 mod good;
 pub mod laws;
-mod majorant;
-mod pairs;
-mod prices;
 mod search;
 pub mod thiele;
 mod trials;

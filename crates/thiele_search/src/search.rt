@@ -15,22 +15,23 @@ ghost use Rattle.ballot_base.specs.Lists.{IsIncreasing};
 ghost use Rattle.ballot_base.specs.Increments.{increments};
 ghost use Rattle.tie_walk.specs.Ceilings.{gain_at};
 ghost use Rattle.tie_walk.specs.Sequences.{gain};
-ghost use Rattle.tie_search.specs.Steps.Narrowed.{Narrows};
+ghost use Rattle.row_bounds.specs.Steps.Narrowed.{Narrows};
 ghost use Rattle.thiele_search.specs.Steps.Aided.{IsAided, IsValued};
-ghost use Rattle.tie_search.specs.Completions.{IsNode, IsOutOfReach, tally_value};
+ghost use Rattle.row_bounds.specs.Completions.{IsNode, IsOutOfReach};
+ghost use Rattle.tie_walk.specs.Values.{tally_value};
 
 use crate::columns::Columns;
 use crate::dominance::Dominance;
-use crate::majorant::HitSums;
-use crate::pairs::PairSearch;
-use crate::prices::{AGAIN, NODE, PriceSearch, Priced};
 use crate::thiele::ThieleSearch;
 use crate::trials::{FEW_SEATS, Uses};
 use ballot_base::{CandSet, Clones, Profile, ThieleRule, Worths};
+use row_bounds::Node;
+use row_bounds::multipliers::{self, Effort};
 use std::alloc::Allocator;
-use tie_search::Node;
+use thiele_bounds::majorant::HitSums;
+use thiele_bounds::pairs::PairSearch;
+use thiele_bounds::prices::{AGAIN, NODE, PriceSearch, Priced};
 use tie_search::descent::{Narrowing, Plan};
-use tie_search::multipliers::{self, Effort};
 use tie_walk::Tally;
 
 /// The aids of a search: clones; dominance, if each hit adds something; columns and prices, if they are worth making;
@@ -225,7 +226,7 @@ impl<'a, A: Allocator + Copy> Narrowing for ThieleSearch<'a, A> {
     ghost use Rattle.ballot_base.specs.Clones.{clones_among};
     ghost use Rattle.ballot_base.specs.Increments.{increments};
     ghost use Rattle.tie_walk.specs.Sequences.{gain};
-    ghost use Rattle.tie_search.specs.Completions.{tally_value};
+    ghost use Rattle.tie_walk.specs.Values.{tally_value};
     ghost use Rattle.thiele_search.specs.Steps.Aided.{IsValued};
 
     ghost candidates = { λ tally. tally.election.m };

@@ -6,21 +6,22 @@ ghost use Rattle.ballot_base.specs.Limits.{most_members};
 ghost use Rattle.tie_walk.specs.Values.{thiele_of};
 ghost use Rattle.tie_walk.specs.Winners.{best_value};
 ghost use Rattle.tie_walk.specs.Ceilings.{ceiling};
-ghost use Rattle.tie_search.specs.Completions.{tally_value};
+ghost use Rattle.tie_walk.specs.Values.{tally_value};
 ghost use Rattle.thiele_search.specs.Steps.Aided.{IsAided};
 
 use crate::columns::Columns;
 use crate::dominance::Dominance;
-use crate::majorant::{HitSums, PAIR_UNITS};
-use crate::prices::Priced;
 use crate::search::{Aids, round_of};
 use crate::trials::Uses;
 use ballot_base::{CandSet, Clones, Profile, ThieleRule};
 use std::alloc::{AllocError, Allocator, Global};
 use std::cell::Cell;
 use std::marker::Model;
-use tie_search::multipliers::Multipliers;
-use tie_search::{Moves, Node, Searchable, Tied, descent};
+use row_bounds::multipliers::Multipliers;
+use row_bounds::{Moves, Node};
+use thiele_bounds::majorant::{HitSums, PAIR_UNITS};
+use thiele_bounds::prices::Priced;
+use tie_search::{Searchable, Tied, descent};
 use tie_walk::{Tally, ThieleTally};
 
 /// All memory for a search among the committees of `k` under a Thiele rule, and the columns in it. Contracts see the

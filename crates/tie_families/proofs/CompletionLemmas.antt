@@ -10,10 +10,9 @@ use Rattle.ballot_base.specs.Lists.{IsIncreasing, increasing_lists}
 use Rattle.ballot_base.specs.CandSet.{has_member, with_member}
 use Rattle.ballot_base.specs.Ballots.{Row}
 use Rattle.ballot_base.proofs.Committees.{increasing_lists-contains, chosen-from_contains}
-use Rattle.ballot_base.proofs.Increasing.{IsIncreasing-lower, IsIncreasing-higher, IsIncreasing-push, IsIncreasing-filter, IsIncreasing-with_member, has_member-above, has_member-below, has_member-filter, same_increasing, with_member-above}
+use Rattle.ballot_base.proofs.Increasing.{IsIncreasing-filter, IsIncreasing-higher, IsIncreasing-lower, IsIncreasing-push, IsIncreasing-with_member, has_member-above, has_member-below, has_member-filter, length-with_member, same_increasing, with_member-above}
 use Rattle.ballot_base.proofs.Sums.{sum-among}
 use Rattle.tie_walk.proofs.LawLemmas.{IsIncreasing-range}
-use Rattle.tie_walk.proofs.SequenceLemmas.{length-with_member}
 use Rattle.tie_walk.proofs.StepLemmas.{has_member-range}
 use Rattle.ballot_base.specs.Clones.{are_clones}
 use Rattle.tie_families.specs.Clones.{clone_count, has_as_many, is_between}

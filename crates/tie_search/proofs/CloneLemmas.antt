@@ -9,13 +9,12 @@ use Rattle.ballot_base.specs.CandSet.{has_member, other_members, with_member, wi
 use Rattle.ballot_base.specs.Ballots.{Row, hits}
 use Rattle.ballot_base.specs.Clones.{are_clones, clones_among}
 use Rattle.ballot_base.proofs.CloneLemmas.{clones_among-are}
-use Rattle.ballot_base.proofs.Increasing.{IsIncreasing-filter, IsIncreasing-with_member, has_member-filter, has_member-with_member, same_increasing}
+use Rattle.ballot_base.proofs.Increasing.{IsIncreasing-filter, IsIncreasing-with_member, has_member-filter, has_member-with_member, length-with_member, same_increasing}
 use Rattle.ballot_base.proofs.Passed.{filter-member}
 use Rattle.tie_walk.proofs.Gains.{bit, hits-with}
-use Rattle.tie_walk.proofs.SequenceLemmas.{length-with_member}
 use Rattle.tie_search.specs.Alike.{AreAlike, HasClasses}
-use Rattle.tie_search.specs.Completions.{IsCompletion, IsNode, IsOutOfReach}
-use Rattle.tie_search.proofs.CompletionLemmas.{completion-with, filter-most, member-high, member-low, member-without}
+use Rattle.row_bounds.specs.Completions.{IsCompletion, IsNode, IsOutOfReach}
+use Rattle.row_bounds.proofs.CompletionLemmas.{completion-with, filter-most, member-high, member-low, member-without}
 
 -- ---- a member in the place of another
 

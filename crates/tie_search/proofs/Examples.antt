@@ -7,36 +7,10 @@ use Rattle.ballot_base.specs.Lists.{lists_of}
 use Rattle.tie_walk.specs.Values.{closeness}
 use Rattle.tie_walk.specs.Winners.{best_value, winners}
 use Rattle.tie_search.specs.Alike.{AreClasses, Becomes, done, step}
-use Rattle.tie_search.specs.Completions.{IsNode, IsCompletion, IsReaching, IsOutOfReach}
 use Rattle.tie_search.specs.Asked.{Asked, IsNextAsked, beginnings, begins_some}
 use Rattle.tie_search.specs.Steps.Branches.{AreStacked, IsBranch, branches_after, completes, entries, first_branches, left_by, longer_beginnings, to_enter, winners_of}
 use Rattle.tie_search.specs.declared.branch.Branch.{Branch}
 use Rattle.tie_search.specs.Tied.{AreBest, AreDistinct, AreTied, IsAmong, IsBest}
-
--- ---- committees that complete a set
-
-two_are_free : IsNode 3 (1 ∷ []) (2 ∷ 3 ∷ [])
-two_are_free = record {
-  set_within = (lit≤ tt, lit≤ tt, tt);
-  free_within = (lit≤ tt, lit≤ tt, (lit≤ tt, lit≤ tt, tt));
-  apart = λ n is. grind (arith, is);
-}
-
-three_completes : IsCompletion 3 (1 ∷ []) (2 ∷ 3 ∷ []) 1 (1 ∷ 3 ∷ [])
-three_completes = record {
-  candidates = (lit≤ tt, lit≤ tt, (lit≤ tt, lit≤ tt, tt));
-  whole = λ n is. grind (arith, is);
-  within = λ n is. grind (arith, is);
-  size = refl;
-}
-
-four_is_reached : IsReaching sum 3 (1 ∷ []) (2 ∷ 3 ∷ []) 1 4 (1 ∷ 3 ∷ [])
-four_is_reached = record { completes = three_completes; reaches = lit≤ tt }
-
--- where nobody is added, nobody gives a value
-nothing_is_reached : IsOutOfReach sum 3 [] (1 ∷ []) 0 1
-nothing_is_reached [] whole = lit< tt
-nothing_is_reached (x ∷ committee) whole = absurd (omega (arith, whole.size))
 
 -- ---- values of two of three candidates, where one voter approves 1 and 2, and one approves 3: with 1 and 2 the second
 -- voter is at the distance 3, with 3 in the committee no voter is farther than 2

@@ -15,7 +15,7 @@ use Rattle.tie_search.specs.Steps.Branches.{AreStacked, IsBegun, IsBranch, branc
 use Rattle.tie_search.specs.declared.asking.Asking.{Asking}
 use Rattle.tie_search.specs.declared.branch.Branch.{Branch}
 use Rattle.tie_search.proofs.BranchLemmas.{added-later, goes-on, grown-is, joined, passed, whole-is, with-begins, with-branch, without-begins, without-branch}
-use Rattle.tie_search.proofs.CompletionLemmas.{member-low}
+use Rattle.row_bounds.proofs.CompletionLemmas.{member-low}
 use Rattle.tie_search.proofs.EnteredLemmas.{longer-all, longer-apart, longer-less}
 use Rattle.tie_search.proofs.StackLemmas.{all-kept, all-winners, greater-later, joined-winners, none-kept, not-later, wins-from}
 

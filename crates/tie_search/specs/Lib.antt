@@ -1,5 +1,4 @@
 pub mod Alike
 pub mod Asked
-pub mod Completions
 pub mod Steps
 pub mod Tied

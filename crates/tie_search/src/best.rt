@@ -17,9 +17,9 @@ ghost use Rattle.tie_search.specs.Steps.Searched.{IsBetter};
 
 use crate::branch::Branch;
 use crate::found::Tied;
-use crate::node::Node;
 use crate::searchable::Searchable;
 use ballot_base::CandSet;
+use row_bounds::Node;
 
 /// What is searched, and what is known of the committees of `k` with the highest value: that value and some of them.
 #[derive(Drop)]

@@ -1,17 +1,18 @@
 //! What can be searched.
 ghost use Rattle.std.specs.Prelude.{◌≡◌, ℕ, ◌≤◌, List, MatchOption, ⊤};
+ghost use Rattle.ballot_base.specs.Limits.{most_candidates};
 ghost use Rattle.ballot_base.specs.Lists.{IsIncreasing};
+ghost use Rattle.row_bounds.specs.Completions.{Finds, IsNode};
 ghost use Rattle.tie_search.specs.Alike.{AreAlike, AreClasses, HasClasses};
-ghost use Rattle.tie_search.specs.Completions.{IsNode, IsOutOfReach, IsReaching};
 ghost use Rattle.tie_search.specs.Tied.{AreTied};
 
 use crate::found::Tied;
-use crate::node::Node;
 use ballot_base::{CandSet, Clones};
+use row_bounds::Node;
 use tie_walk::Tally;
 
-/// Values of committees. A committee of at least a given value can be searched for.
-pub trait Searchable: Tally {
+/// Values of committees, and which candidates are clones.
+pub trait WithClones: Tally {
     // The clones of each candidate.
     ghost class_of: { Self → ℕ → List ℕ };
 
@@ -21,17 +22,17 @@ pub trait Searchable: Tally {
         ensures rise { (c : ℕ) → 1 ≤ c → c ≤ Self.candidates self.now
             → IsIncreasing 1 (Self.candidates self.now) (Self.class_of self.now c) }
         ensures classes { AreClasses (Self.candidates self.now) (Self.class_of self.now) }
-        ensures alike { AreAlike (Self.value_of self.now) (Self.candidates self.now) (Self.class_of self.now) };
+        ensures alike { AreAlike (Self.value_of self.now) (Self.candidates self.now) (Self.class_of self.now) }
+        ensures most { Self.candidates self.now ≤ most_candidates };
+}
 
+/// Values of committees. A committee of at least a given value can be searched for.
+pub trait Searchable: WithClones {
     /// Finds a committee that completes a node and whose value is at least `least`. Returns `None` if there is none.
     fn find(&self, node: &Node, least: u128) -> Option<CandSet>
         requires is_node { IsNode (Self.candidates self.now) node.now.set node.now.free }
         requires value { node.now.value ≡ Self.value_of self.now node.now.set }
-        ensures { MatchOption result
-            (IsOutOfReach (Self.value_of self.now) (Self.candidates self.now) node.now.set node.now.free node.now.left
-            least)
-            (IsReaching (Self.value_of self.now) (Self.candidates self.now) node.now.set node.now.free node.now.left
-            least) };
+        ensures { Finds (Self.value_of self.now) (Self.candidates self.now) node.now least result };
 
     /// Lists committees of `k` with the highest value, each once. Every other one becomes a listed one if clones take
     /// the place of members. If there are more, `MOST_TIED` of them are listed. Returns `None` if they are left to

@@ -18,7 +18,7 @@ use Rattle.ballot_base.specs.CandSet.{has_member, with_member, without_member}
 use Rattle.ballot_base.specs.Ballots.{Row, Election}
 use Rattle.ballot_base.proofs.Committees.{increasing_lists-contains, increasing_lists-order}
 use Rattle.ballot_base.proofs.FirstMember.{without_member_head}
-use Rattle.ballot_base.proofs.Increasing.{IsIncreasing-filter, has_member-filter, has_member_head, has_member_tail, same_increasing, with_member-lt, with_member-gt}
+use Rattle.ballot_base.proofs.Increasing.{IsIncreasing-filter, has_member-filter, has_member_tail, length-with_member, same_increasing}
 use Rattle.ballot_base.proofs.Later.{sorted_from_later}
 use Rattle.ballot_base.proofs.ListLemmas.{Contains-later}
 use Rattle.tie_walk.specs.Sequences.{hit_weights, sequential_winners, has_greatest_gain, is_grown, is_shrunk, is_grown_set, is_left_set}
@@ -33,18 +33,6 @@ use Rattle.tie_walk.proofs.LevelLemmas.{both_false, in_bounds, choice-parts, fol
 use Rattle.tie_walk.proofs.StepLemmas.{has_member-range}
 
 -- ---- the size of a reached set
-
-pub length-with_member : (set : List ℕ) (n : ℕ) → has_member set n ≡ false → length (with_member set n) ≡ length set + 1
-length-with_member [] n outside = refl
-length-with_member (x ∷ xs) n outside = elim (cases_order n x) [
-  | inl same ↦ absurd (both_false (has_member (x ∷ xs) n) outside (subst (λ k. has_member (x ∷ xs) k ≡ true) (sym same) (has_member_head x xs)))
-  | inr d ↦ elim d [
-    | inl less ↦ ap length (with_member-lt x xs n less) ∙ omega arith
-    | inr more ↦
-        let rest : has_member xs n ≡ false = sym (has_member_tail x n xs (λ e. omega (arith, e, more))) ∙ outside in
-        ap length (with_member-gt x xs n more) ∙ omega (arith, length-with_member xs n rest)
-  ]
-]
 
 pub length-without_member : (first last : ℕ) (set : List ℕ) (n : ℕ) → IsIncreasing first last set → has_member set n ≡ true → length (without_member set n) + 1 ≡ length set
 length-without_member first last [] n up inside = let e : false ≡ true = inside in cc

@@ -3,6 +3,7 @@ use Rattle.std.specs.Prelude.{ℕ, ◌+◌, ◌-◌, ◌*◌, ◌/◌, ◌==◌,
 use Rattle.ballot_base.specs.CandSet.{has_member}
 use Rattle.ballot_base.specs.Ballots.{Row, Election, hits}
 use Rattle.ballot_base.specs.CommonMultiple.{common_multiple}
+use Rattle.ballot_base.specs.Increments.{increments}
 use Rattle.ballot_base.specs.declared.increments.ThieleRule.{ThieleRule}
 
 -- under a Thiele rule with these increments, a voter with x hits gives a committee the sum of the first x increments
@@ -37,3 +38,7 @@ pub record Thiele : Type 0 where
 
 abbrev pub thiele_of : Election → ThieleRule → ℕ → Thiele
 thiele_of election rule k = record { election = election; rule = rule; k = k }
+
+-- what a tally of a Thiele rule gives a set
+abbrev pub tally_value : Thiele → List ℕ → ℕ
+tally_value tally set = thiele_value (increments tally.rule tally.k) tally.election.rows set

@@ -11,7 +11,8 @@ use std::alloc::Global;
 use std::cell::Cell;
 use std::process::Abort;
 use thiele_search::{SearchMemory, ThieleSearch};
-use tie_search::{Node, SearchWinners, Searchable, Tied};
+use row_bounds::Node;
+use tie_search::{SearchWinners, Searchable, Tied};
 use tie_walk::{Tally, Winners};
 
 /// Asserts something about two numbers, and shows both if it fails. One message serves many tests, since each message

@@ -7,9 +7,9 @@ use Rattle.ballot_base.specs.Lists.{IsIncreasing}
 use Rattle.ballot_base.specs.Steps.Lists.{IsIncreasing-prop}
 use Rattle.ballot_base.specs.CandSet.{has_member}
 use Rattle.tie_walk.specs.Values.{closeness}
-use Rattle.tie_search.specs.Completions.{IsOutOfReach}
+use Rattle.row_bounds.specs.Completions.{IsOutOfReach}
 use Rattle.tie_search.specs.Steps.Descent.{AreChoices}
-use Rattle.tie_search.specs.Steps.Narrowed.{IsNarrowed}
+use Rattle.row_bounds.specs.Steps.Narrowed.{IsNarrowed}
 use Rattle.tie_search.specs.declared.descent.Plan.{Plan}
 use Rattle.near_search.specs.Needs.{hits_needed}
 

@@ -4,16 +4,15 @@ use Rattle.ballot_base.specs.Ballots.{IsElection}
 use Rattle.ballot_base.specs.Clones.{AreClones}
 use Rattle.ballot_base.specs.Increments.{increments}
 use Rattle.ballot_base.specs.Limits.{most_members}
-use Rattle.tie_walk.specs.Values.{Thiele}
-use Rattle.tie_search.specs.Completions.{tally_value}
+use Rattle.tie_walk.specs.Values.{Thiele, tally_value}
 use Rattle.thiele_search.specs.declared.columns.Columns.{Columns}
-use Rattle.thiele_search.specs.declared.majorant.HitSums.{HitSums}
+use Rattle.thiele_bounds.specs.declared.majorant.HitSums.{HitSums}
 use Rattle.thiele_search.specs.declared.search.Aids.{Aids}
-use Rattle.thiele_search.specs.Steps.Units.{most_given_to_pairs}
+use Rattle.thiele_bounds.specs.Steps.Units.{most_given_to_pairs}
 use Rattle.thiele_search.specs.Steps.Columns.{AreColumnsOf}
 use Rattle.thiele_search.specs.Steps.Dominance.{IsDominance}
-use Rattle.thiele_search.specs.Steps.Paired.{AreSums}
-use Rattle.thiele_search.specs.Steps.Priced.{IsPriced}
+use Rattle.thiele_bounds.specs.Steps.Paired.{AreSums}
+use Rattle.thiele_bounds.specs.Steps.Priced.{IsPriced}
 
 -- the value is that of the set, in an election and under a rule that can be searched
 pub record IsValued (tally : Thiele) (set : List ℕ) (value : ℕ) : Type 0 where

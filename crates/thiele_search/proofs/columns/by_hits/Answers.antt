@@ -7,7 +7,7 @@ use Rattle.ballot_base.specs.Ballots.{hits}
 use Rattle.ballot_base.specs.CandSet.{has_member}
 use Rattle.tie_walk.proofs.Gains.{hits-none}
 use Rattle.thiele_search.proofs.ColumnLemmas.{hits-first, hit-moves}
-use Rattle.tie_search.proofs.SearchLemmas.{rest-increasing}
+use Rattle.row_bounds.proofs.SearchLemmas.{rest-increasing}
 use Rattle.thiele_search.proofs.columns.by_hits.Goals as goal
 
 begins : (words : List ℕ) (h i all : ℕ) → i < 64 → get_or words 0 0 ≡ 2 ^ 64 - 1 → ((j : ℕ) → 1 ≤ j → get_or words j 0 ≡ 0)

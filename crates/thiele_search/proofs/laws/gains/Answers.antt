@@ -1,7 +1,7 @@
 use Rattle.ballot_base.specs.Increments.{increments}
 use Rattle.tie_walk.specs.Values.{thiele_value}
 use Rattle.tie_walk.proofs.Submodular.{thiele_rule-submodular}
-use Rattle.tie_search.proofs.CompletionLemmas.{thiele-same}
+use Rattle.thiele_search.proofs.WholeLemmas.{thiele-same}
 use Rattle.thiele_search.proofs.GainLemmas.{node-gains}
 use Rattle.thiele_search.proofs.laws.gains.Goals as goal
 

@@ -5,7 +5,7 @@ use Rattle.ballot_base.specs.Lists.{IsIncreasing}
 use Rattle.tie_walk.specs.Ceilings.{IsBound}
 use Rattle.tie_walk.proofs.LawLemmas.{IsIncreasing-range}
 use Rattle.tie_walk.proofs.StepLemmas.{has_member-range}
-use Rattle.tie_search.specs.Completions.{IsNode, IsOutOfReach, IsReaching}
+use Rattle.row_bounds.specs.Completions.{IsNode, IsOutOfReach, IsReaching}
 use Rattle.tie_search.specs.Steps.Searched.{IsBetter}
 use Rattle.tie_search.proofs.ReachLemmas.{completes-none}
 use Rattle.tie_search.proofs.best.better_than.Goals as goal

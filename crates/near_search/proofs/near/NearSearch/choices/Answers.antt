@@ -11,7 +11,7 @@ use Rattle.tie_search.specs.Steps.Descent.{AreChoices}
 use Rattle.near_search.specs.Steps.Near.{AreEligible}
 use Rattle.near_search.proofs.NeedLemmas.{choice-of_ballot, hopeless, narrowed-to_ballot, too-few}
 use Rattle.tie_search.proofs.DescentLemmas.{choice-of_all, narrowed-choice}
-use Rattle.tie_search.proofs.NarrowedLemmas.{narrowed-more, narrowed-none, narrowed-out}
+use Rattle.row_bounds.proofs.NarrowedLemmas.{narrowed-more, narrowed-none, narrowed-out}
 use Rattle.near_search.proofs.near.NearSearch.choices.Goals as goal
 use Rattle.near_search.proofs.near.NearSearch.choices.Goals.{After-is_tighter, After-still_needed-needed, then-needed-node, else-needed-node}
 

@@ -1,8 +1,8 @@
 use Rattle.std.proofs.Common.{◌-◌, arith, refl}
 use Rattle.ballot_base.specs.CandSet.{with_member, without_member}
 use Rattle.tie_walk.specs.Values.{closeness}
-use Rattle.tie_search.proofs.CompletionLemmas.{member-high, member-low, node-with}
-use Rattle.tie_search.proofs.NarrowedLemmas.{narrowed-none}
+use Rattle.row_bounds.proofs.CompletionLemmas.{member-high, member-low, node-with}
+use Rattle.row_bounds.proofs.NarrowedLemmas.{narrowed-none}
 use Rattle.near_search.proofs.near.NearSearchNarrowing.child.Goals as goal
 
 pub with-requires-clause-low : goal.with-requires-clause-low

@@ -1,7 +1,7 @@
 use Rattle.std.proofs.Common.{◌+◌, arith, length}
 use Rattle.std.specs.Prelude.{slice_index}
 use Rattle.tie_walk.specs.Values.{closeness}
-use Rattle.tie_search.proofs.NarrowedLemmas.{narrowed-members}
+use Rattle.row_bounds.proofs.NarrowedLemmas.{narrowed-members}
 use Rattle.near_search.specs.Steps.Near.{AreWeighted}
 use Rattle.near_search.proofs.WeightedNeeds.{weighted-fewer, weighted-paid}
 use Rattle.near_search.proofs.near.NearSearchNarrowing.narrowed.Goals as goal

@@ -1,8 +1,8 @@
 use Rattle.std.proofs.Common.{◌+◌, ◌-◌, ◌≡◌, None, Some, ℕ, List, refl, arith, length}
 use Rattle.ballot_base.specs.Ballots.{Election}
 use Rattle.tie_walk.specs.Values.{closeness}
-use Rattle.tie_search.specs.Steps.Narrowed.{IsNarrowed}
-use Rattle.tie_search.proofs.NarrowedLemmas.{narrowed-more, narrowed-out}
+use Rattle.row_bounds.specs.Steps.Narrowed.{IsNarrowed}
+use Rattle.row_bounds.proofs.NarrowedLemmas.{narrowed-more, narrowed-out}
 use Rattle.near_search.specs.Steps.Near.{AreBranches, AreEligible}
 use Rattle.near_search.proofs.WeightedNeeds.{needs-narrow, weighted-fewer}
 use Rattle.near_search.proofs.near.NearSearchNarrowing.plan.Goals as goal

@@ -5,8 +5,8 @@ use Rattle.ballot_base.specs.Ballots.{Row}
 use Rattle.ballot_base.specs.Limits.{most_candidates}
 use Rattle.ballot_base.proofs.Increasing.{IsIncreasing-higher}
 use Rattle.tie_walk.proofs.Distances.{ballot-found}
-use Rattle.tie_search.proofs.HitLemmas.{free-common}
-use Rattle.tie_search.proofs.SearchLemmas.{part-most}
+use Rattle.row_bounds.proofs.HitLemmas.{free-common}
+use Rattle.row_bounds.proofs.SearchLemmas.{part-most}
 use Rattle.near_search.proofs.WeightedNeeds.{turns-few, weighted-more}
 use Rattle.near_search.proofs.weights.NeedSearch.needs.Goals as goal
 use Rattle.near_search.proofs.weights.NeedSearch.needs.Goals.{then-needed-gt0, else-needed-gt0}

@@ -1,8 +1,7 @@
 use Rattle.std.proofs.Common.{subst}
 use Rattle.ballot_base.specs.Clones.{AreClones, clones_among}
-use Rattle.tie_walk.specs.Values.{Thiele}
+use Rattle.tie_walk.specs.Values.{Thiele, tally_value}
 use Rattle.tie_search.specs.Alike.{AreAlike}
-use Rattle.tie_search.specs.Completions.{tally_value}
 use Rattle.thiele_search.proofs.AlikeLemmas.{alike}
 use Rattle.thiele_search.proofs.search.ThieleSearchNarrowing.clones.Goals as goal
 

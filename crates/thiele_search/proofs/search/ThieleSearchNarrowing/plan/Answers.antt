@@ -1,8 +1,8 @@
 use Rattle.std.proofs.Common.{refl}
-use Rattle.tie_search.specs.Completions.{tally_value}
-use Rattle.tie_search.specs.Steps.Narrowed.{IsNarrowed}
+use Rattle.tie_walk.specs.Values.{tally_value}
+use Rattle.row_bounds.specs.Steps.Narrowed.{IsNarrowed}
 use Rattle.tie_search.proofs.DescentLemmas.{choice-of_all, narrowed-choice}
-use Rattle.tie_search.proofs.NarrowedLemmas.{narrowed-more}
+use Rattle.row_bounds.proofs.NarrowedLemmas.{narrowed-more}
 use Rattle.thiele_search.proofs.GainLemmas.{gain-same}
 use Rattle.thiele_search.proofs.search.ThieleSearchNarrowing.plan.Goals as goal
 

@@ -1,8 +1,9 @@
 use Rattle.std.proofs.Common.{ℕ, List, Option, None, Some}
 use Rattle.std.specs.Prelude.{MatchOption}
-use Rattle.tie_search.specs.Completions.{IsOutOfReach, tally_value}
-use Rattle.tie_search.specs.Steps.Narrowed.{IsNarrowed}
-use Rattle.tie_search.proofs.NarrowedLemmas.{narrowed-more, narrowed-out}
+use Rattle.row_bounds.specs.Completions.{IsOutOfReach}
+use Rattle.tie_walk.specs.Values.{tally_value}
+use Rattle.row_bounds.specs.Steps.Narrowed.{IsNarrowed}
+use Rattle.row_bounds.proofs.NarrowedLemmas.{narrowed-more, narrowed-out}
 use Rattle.thiele_search.proofs.thiele.ThieleSearch.eligible.Goals as goal
 
 -- narrowed further

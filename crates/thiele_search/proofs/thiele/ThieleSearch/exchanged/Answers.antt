@@ -1,4 +1,4 @@
-use Rattle.tie_search.proofs.CompletionLemmas.{candidates-among}
+use Rattle.row_bounds.proofs.CompletionLemmas.{candidates-among}
 use Rattle.thiele_search.proofs.thiele.ThieleSearch.exchanged.Goals as goal
 
 pub loop-pass-init : goal.loop-pass-init

@@ -1,7 +1,7 @@
 use Rattle.std.proofs.Common.{arith}
 use Rattle.ballot_base.proofs.Committees.{increasing_lists-contains}
 use Rattle.tie_walk.proofs.LawLemmas.{no_greater_value}
-use Rattle.tie_search.specs.Completions.{tally_value}
+use Rattle.tie_walk.specs.Values.{tally_value}
 use Rattle.thiele_search.proofs.thiele.ThieleSearch.good_value.Goals as goal
 
 pub returns-in-Some : goal.returns-in-Some

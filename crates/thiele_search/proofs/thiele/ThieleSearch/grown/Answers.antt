@@ -1,6 +1,6 @@
 use Rattle.std.proofs.Common.{◌≤◌, arith}
 use Rattle.ballot_base.proofs.Increasing.{IsIncreasing-with_member}
-use Rattle.thiele_search.proofs.BesideLemmas.{beside-candidates}
+use Rattle.thiele_bounds.proofs.BesideLemmas.{beside-candidates}
 use Rattle.thiele_search.proofs.thiele.ThieleSearch.grown.Goals as goal
 use Rattle.thiele_search.proofs.thiele.ThieleSearch.grown.Goals.{In-Some}
 

@@ -1,8 +1,7 @@
 use Rattle.std.proofs.Common.{subst}
 use Rattle.ballot_base.specs.Ballots.{Election}
-use Rattle.tie_walk.specs.Values.{Thiele}
-use Rattle.tie_search.specs.Completions.{tally_value}
-use Rattle.tie_search.specs.Steps.Narrowed.{Narrows}
+use Rattle.tie_walk.specs.Values.{Thiele, tally_value}
+use Rattle.row_bounds.specs.Steps.Narrowed.{Narrows}
 use Rattle.thiele_search.proofs.thiele.ThieleSearch.moved.Goals as goal
 
 pub returns : goal.returns

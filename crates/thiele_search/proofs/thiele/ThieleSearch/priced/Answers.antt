@@ -1,11 +1,11 @@
 use Rattle.std.proofs.Common.{◌≡◌, ℕ, ◌+◌, ◌-◌, ◌*◌, ◌≤◌, ap, arith, get_or, length, sum_by}
 use Rattle.std.proofs.Math.Nat.{mul-le-mul_left}
 use Rattle.ballot_base.specs.CandSet.{common_members}
-use Rattle.tie_search.specs.Completions.{tally_value}
-use Rattle.tie_search.proofs.NarrowedLemmas.{narrowed-members}
-use Rattle.thiele_search.specs.Steps.Priced.{ArePrices}
-use Rattle.thiele_search.proofs.PairBounds.PairLemmas.{sum-less}
-use Rattle.thiele_search.proofs.PriceBounds.{all-completed, all-members}
+use Rattle.tie_walk.specs.Values.{tally_value}
+use Rattle.row_bounds.proofs.NarrowedLemmas.{narrowed-members}
+use Rattle.thiele_bounds.specs.Steps.Priced.{ArePrices}
+use Rattle.thiele_bounds.proofs.PairBounds.PairLemmas.{sum-less}
+use Rattle.thiele_bounds.proofs.PriceBounds.{all-completed, all-members}
 use Rattle.thiele_search.proofs.thiele.ThieleSearch.priced.Goals as goal
 
 pub returns : goal.returns

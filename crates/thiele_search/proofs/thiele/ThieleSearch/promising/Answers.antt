@@ -1,6 +1,6 @@
 use Rattle.std.proofs.Common.{get_or}
-use Rattle.tie_search.specs.Completions.{tally_value}
-use Rattle.tie_search.proofs.NarrowedLemmas.{narrowed-members}
+use Rattle.tie_walk.specs.Values.{tally_value}
+use Rattle.row_bounds.proofs.NarrowedLemmas.{narrowed-members}
 use Rattle.thiele_search.proofs.GainLemmas.{gains-pay}
 use Rattle.thiele_search.proofs.thiele.ThieleSearch.promising.Goals as goal
 

@@ -1,7 +1,7 @@
 use Rattle.std.proofs.Common.{◌≤◌, ◌==◌, arith, not}
 use Rattle.ballot_base.specs.Lists.{IsIncreasing}
 use Rattle.ballot_base.proofs.Increasing.{IsIncreasing-filter, IsIncreasing-with_member}
-use Rattle.thiele_search.proofs.BesideLemmas.{beside-candidates}
+use Rattle.thiele_bounds.proofs.BesideLemmas.{beside-candidates}
 use Rattle.thiele_search.proofs.thiele.ThieleSearch.replaced.Goals as goal
 use Rattle.thiele_search.proofs.thiele.ThieleSearch.replaced.Goals.{After-without-rest, In-Some}
 

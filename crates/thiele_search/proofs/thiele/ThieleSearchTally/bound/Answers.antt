@@ -1,7 +1,6 @@
 use Rattle.std.proofs.Common.{ap, ◌∙◌}
 use Rattle.tie_walk.specs.Ceilings.{ceiling}
-use Rattle.tie_walk.specs.Values.{Thiele}
-use Rattle.tie_search.specs.Completions.{tally_value}
+use Rattle.tie_walk.specs.Values.{Thiele, tally_value}
 use Rattle.thiele_search.proofs.thiele.ThieleSearchTally.bound.Goals as goal
 
 pub returns-clause-value : goal.returns-clause-value

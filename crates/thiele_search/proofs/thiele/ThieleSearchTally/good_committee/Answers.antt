@@ -1,7 +1,7 @@
 use Rattle.std.proofs.Common.{◌≡◌, ◌∙◌, ap, subst, arith}
 use Rattle.ballot_base.specs.Lists.{IsIncreasing}
 use Rattle.tie_walk.specs.Values.{Thiele}
-use Rattle.tie_search.proofs.CompletionLemmas.{candidates-among}
+use Rattle.row_bounds.proofs.CompletionLemmas.{candidates-among}
 use Rattle.thiele_search.proofs.thiele.ThieleSearchTally.good_committee.Goals as goal
 
 pub returns : goal.returns

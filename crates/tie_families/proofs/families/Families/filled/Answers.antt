@@ -1,6 +1,5 @@
 use Rattle.std.proofs.Common.{◌≡◌, ◌+◌, ◌∙◌, sym, ap, arith, length}
-use Rattle.ballot_base.proofs.Increasing.{IsIncreasing-with_member}
-use Rattle.tie_walk.proofs.SequenceLemmas.{length-with_member}
+use Rattle.ballot_base.proofs.Increasing.{IsIncreasing-with_member, length-with_member}
 use Rattle.tie_families.specs.Families.{Sequential}
 use Rattle.tie_families.proofs.Lists.{free-among}
 use Rattle.tie_families.proofs.families.Families.filled.Goals as goal

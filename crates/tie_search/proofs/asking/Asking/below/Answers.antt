@@ -65,7 +65,7 @@ module _ (g : Over) (c : After-minus g) where
   alike : AreAlike (g.S.Tally.value_of c.args.best.now.search) (g.S.Tally.candidates c.args.best.now.search) (λ n. slice_index_or c.clones.result.now n [])
   alike =
       let search = c.args.best.now.search in
-      alike-table (g.S.Tally.value_of search) (g.S.Tally.candidates search) (g.S.Searchable.class_of search) c.clones.result.now c.clones.ensures.table c.clones.ensures.alike
+      alike-table (g.S.Tally.value_of search) (g.S.Tally.candidates search) (g.S.WithClones.class_of search) c.clones.result.now c.clones.ensures.table c.clones.ensures.alike
 
   over : c.minus.result ≡ other_members c.in-Some.parts.1 (slice_index_or c.clones.result.now c.in-Some.parts.0 [])
   over = c.minus.ensures ∙ ap (other_members c.in-Some.parts.1) c.class-clones.ensures

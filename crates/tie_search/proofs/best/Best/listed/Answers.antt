@@ -16,8 +16,8 @@ loop-i-preserved g c = record {
         let at : get_or best.tied.committees c.loop-i.i [] ≡ committee =
         get_or_default best.tied.committees c.loop-i.i [] c.index-self-i.result (omega (arith, c.loop-i-test.true, c.requires.knows.listed.few, long)) in
         let rises : IsIncreasing 1 m committee = (c.requires.knows.listed.each committee (c.loop-i.i, c.loop-i-test.true, at)).candidates in
-        let here : Becomes m (g.S.Searchable.class_of best.search) committee other = subst (λ l. Becomes m (g.S.Searchable.class_of best.search) l other) (ap (λ n. get_or best.tied.committees n []) same ∙ at) becomes in
-        let suits : c.suits.result ≡ true = c.suits.ensures m best.k (g.S.Searchable.class_of best.search) other c.requires.branch c.clones-clones.ensures.table c.clones-clones.ensures.rise c.clones-clones.ensures.classes rises here whole in
+        let here : Becomes m (g.S.WithClones.class_of best.search) committee other = subst (λ l. Becomes m (g.S.WithClones.class_of best.search) l other) (ap (λ n. get_or best.tied.committees n []) same ∙ at) becomes in
+        let suits : c.suits.result ≡ true = c.suits.ensures m best.k (g.S.WithClones.class_of best.search) other c.requires.branch c.clones-clones.ensures.table c.clones-clones.ensures.rise c.clones-clones.ensures.classes rises here whole in
         absurd (let e : true ≡ false = sym suits ∙ c.if-suits.false in cc)
     | inr other' ↦ c.loop-i.invariant.none j (omega (arith, low, other')) other becomes whole
   ];
@@ -27,5 +27,5 @@ pub returns : goal.returns
 returns g c committee wins =
     let self = c.args.self.now in
     let like = c.requires.knows.listed.all c.requires.all committee wins.best in
-    let becomes = subst (λ l. Becomes (g.S.Tally.candidates self.search) (g.S.Searchable.class_of self.search) l committee) (sym like.1.2) like.2 in
+    let becomes = subst (λ l. Becomes (g.S.Tally.candidates self.search) (g.S.WithClones.class_of self.search) l committee) (sym like.1.2) like.2 in
     c.loop-i.invariant.none like.1.0 (omega (arith, like.1.1, c.loop-i-test.false)) committee becomes wins.whole

@@ -6,6 +6,6 @@ use Rattle.tie_search.proofs.best.Best.listed.Given as goal
 -- nothing that completes the branch becomes one of those that were looked at
 abbrev pub invariant-loop-i : goal.invariant-loop-i
 invariant-loop-i g l = record {
-  none : (j : ℕ) → j < l.i → (other : List ℕ) → Becomes (g.S.Tally.candidates l.self.search) (g.S.Searchable.class_of l.self.search) (get_or l.self.tied.committees j []) other
+  none : (j : ℕ) → j < l.i → (other : List ℕ) → Becomes (g.S.Tally.candidates l.self.search) (g.S.WithClones.class_of l.self.search) (get_or l.self.tied.committees j []) other
       → completes l.branch other ≡ true → ⊥;
 }

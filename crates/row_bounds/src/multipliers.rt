@@ -1,0 +1,394 @@
+//! Multipliers that follow the node, and narrow it: a subgradient method (Held, Wolfe and Crowder, Validation of
+//! subgradient optimization, 1974).
+//!
+//! A bound over the rows of an election has a multiplier for each row. In each round, the multiplier of a row rises if
+//! the candidates of the highest worths hit its ballot less often than they should, and falls if more often. One array
+//! has the multipliers of a whole search. They are changed in place and never restored when the search goes back: any
+//! multipliers are right, and the last ones are a good beginning for the next node. Nothing but their range is proved.
+ghost use Rattle.std.specs.Prelude.{◌≡◌, ℕ, List, ◌≤◌};
+ghost use Rattle.ballot_base.specs.Limits.{most_candidates};
+ghost use Rattle.row_bounds.specs.Completions.{IsNode};
+ghost use Rattle.row_bounds.specs.Steps.Constraints.{IsConstraint};
+ghost use Rattle.row_bounds.specs.Steps.Narrowed.{Narrows};
+
+use crate::node::Node;
+use ballot_base::{CandSet, Worths};
+use std::alloc::{AllocError, Allocator};
+use std::cell::Cell;
+
+/// The maximum number of rows with multipliers: with more different ballots, moving them brought nothing within a
+/// minute.
+const MOST_ROWS: usize = 8192;
+
+/// The pace of a step that closes the whole gap.
+pub const WHOLE: u64 = 1024;
+
+/// The direction that one hit makes.
+const HIT: i64 = 64;
+
+/// The number of rounds between two judgements whether the gap closes fast enough.
+const ROUNDS_BETWEEN: u16 = 3;
+
+/// A gap counts as smaller only if it closed by more than itself divided by this.
+const LEAST_FALL: u128 = 8192;
+
+/// The number of rounds after which a large gap ends the moving, if the effort has a limit of it.
+const ROUNDS_BEFORE_DOUBT: u16 = 100;
+
+/// How long multipliers are moved.
+#[derive(Clone, Copy)]
+pub struct Effort {
+    /// The maximum number of rounds.
+    pub rounds: u16,
+    /// The share of the gap that the first step closes, in parts of `WHOLE`.
+    pub pace: u64,
+    /// Moving ends when steps get shorter than this.
+    pub least_pace: u64,
+    /// The number of rounds without a smaller gap after which steps get shorter.
+    pub patience: u8,
+    /// The largest gap with which moving goes on after many rounds. If there is no such limit, moving ends as soon as
+    /// the gap closes too slowly.
+    pub large_gap: Option<u128>,
+    /// Whether moving ends with the multipliers whose gap was the smallest, and not with the last ones.
+    pub goes_back: bool,
+}
+
+/// What all completions of a node bring that reach a value.
+#[derive(Drop)]
+pub struct Constraint {
+    /// What is there without the candidates that join.
+    pub paid: u128,
+    /// What is needed, together with the worths of the candidates that join.
+    pub due: u128,
+    pub worths: Worths,
+}
+
+impl Constraint {
+    /// The free candidates of a node that can still join. Returns `None` only if no completion of its set reaches the
+    /// value.
+    pub fn narrowed(&self, node: &Node) -> Option<CandSet>
+        ensures { (value : List ℕ → ℕ) (m least : ℕ) → m ≤ most_candidates → IsNode m node.now.set node.now.free
+            → IsConstraint value m node.now least self.now → Narrows value m node.now least result }
+    {
+        self.worths
+            .members_for(node.free, node.left, self.due.saturating_sub(self.paid))
+    }
+
+    /// The free candidates of the highest worths, as many as join.
+    pub fn best(&self, node: &Node) -> CandSet {
+        let lowest = self.worths.nth_greatest(node.free, node.left);
+        let mut best = self.worths.at_least(node.free, lowest);
+        let better = self.worths.at_least(node.free, lowest.saturating_add(1));
+        for candidate in best.minus(better).members() {
+            if best.len() > node.left {
+                best = best.without(candidate);
+            }
+        }
+        best
+    }
+
+    /// How far the candidates of the highest worths exceed what is due.
+    pub fn excess(&self, best: CandSet) -> u128 {
+        self.paid
+            .saturating_add(self.worths.excess(best, 0))
+            .saturating_sub(self.due)
+    }
+}
+
+/// How far the candidates of the highest worths exceed what is due.
+#[derive(Clone, Copy)]
+pub struct Gap {
+    /// In a unit that is the same in all rounds.
+    pub size: u128,
+    /// How far a step goes that closes the gap.
+    pub way: u128,
+}
+
+/// A bound over the rows of an election, with a multiplier for each row.
+pub trait RowBound {
+    ghost candidates: { Self → ℕ };
+
+    ghost value_of: { Self → List ℕ → ℕ };
+
+    // The value that completions must reach.
+    ghost least: { Self → ℕ };
+
+    /// What the completions of a node bring that reach the value, by the present multipliers.
+    fn constraint(&self, node: &Node) -> Constraint
+        requires is_node { IsNode (Self.candidates self.now) node.now.set node.now.free }
+        ensures constraint { IsConstraint (Self.value_of self.now) (Self.candidates self.now) node.now
+            (Self.least self.now) result }
+        ensures most { Self.candidates self.now ≤ most_candidates };
+
+    /// The gap of a round, by the candidates of the highest worths.
+    fn gap(&self, constraint: &Constraint, best: CandSet) -> Gap;
+
+    /// Turns the directions of the rows by `Multipliers::aim`, to the hits that they lack among the candidates of the
+    /// highest worths. Returns the sum of the squared directions.
+    fn aim(&self, node: &Node, best: CandSet) -> u128
+        requires is_node { IsNode (Self.candidates self.now) node.now.set node.now.free };
+}
+
+/// The result of moving multipliers at a node.
+#[derive(Drop)]
+pub struct Moved {
+    /// The free candidates that can still join. `None` only if no completion of the set reaches the value.
+    pub free: Option<CandSet>,
+    /// The candidates of the highest worths when the gap was the smallest.
+    pub best: CandSet,
+    pub rounds: u32,
+}
+
+/// Moves the multipliers of a bound until no completion of the node reaches the value, or the gap closes too slowly.
+pub fn narrowed<B: RowBound, A: Allocator>(
+    bound: &B,
+    multipliers: &Multipliers<A>,
+    node: &Node,
+    effort: Effort,
+) -> Moved
+    requires is_node { IsNode (B.candidates bound.now) node.now.set node.now.free }
+    ensures { Narrows (B.value_of bound.now) (B.candidates bound.now) node.now (B.least bound.now) result.free }
+{
+    let mut progress = Progress::new(effort);
+    let mut here = *node;
+    for _round in 0..effort.rounds {
+        let constraint = bound.constraint(&here);
+        let Some(free) = constraint.narrowed(&here) else {
+            return progress.end(None);
+        };
+        here.free = free;
+        let best = constraint.best(&here);
+        let gap = bound.gap(&constraint, best);
+        match progress.next(gap, best) {
+            Next::Smaller if effort.goes_back => multipliers.keep(),
+            Next::Smaller | Next::Larger => {}
+            Next::Back => multipliers.restore(),
+            Next::End => break,
+        }
+        let square = bound.aim(&here, best);
+        if square == 0 {
+            break;
+        }
+        multipliers.step(progress.length(gap, square));
+    }
+    if effort.goes_back {
+        multipliers.restore();
+    }
+    progress.end(Some(here.free))
+}
+
+/// The multiplier of a row.
+#[derive(Clone, Copy)]
+struct Multiplier {
+    now: u64,
+    // The multiplier with which the gap was the smallest.
+    lowest: u64,
+    // The hits that the candidates of the highest worths lacked lately, in parts of a hit.
+    direction: i64,
+}
+
+impl Multiplier {
+    fn at(now: u64) -> Multiplier {
+        Multiplier {
+            now,
+            lowest: now,
+            direction: 0,
+        }
+    }
+}
+
+/// A multiplier for each row.
+#[derive(Drop)]
+pub struct Multipliers<A: Allocator> {
+    rows: Vec<Cell<Multiplier>, A>,
+}
+
+impl<A: Allocator + Copy + Drop> Multipliers<A> {
+    /// Takes memory for this many rows: 24 bytes each. All begin with this multiplier. Returns `None` if there are more
+    /// than `MOST_ROWS`.
+    pub fn of(alloc: A, rows: usize, first: u64) -> Result<Option<Multipliers<A>>, AllocError> {
+        if rows > MOST_ROWS {
+            return Ok(None);
+        }
+        Ok(Some(Multipliers {
+            rows: vec![in alloc; Cell::new(Multiplier::at(first)); rows]?,
+        }))
+    }
+}
+
+impl<A: Allocator> Multipliers<A> {
+    /// Begins anew with this multiplier of a row.
+    pub fn begin(&self, row: usize, first: u64) {
+        if let Some(row) = self.rows.get(row) {
+            row.set(Multiplier::at(first));
+        }
+    }
+
+    /// The multiplier of a row. It is first moved to the range from `low` to `high`.
+    pub fn within(&self, row: usize, low: u64, high: u64) -> u64
+        ensures { result ≤ high }
+    {
+        let Some(row) = self.rows.get(row) else {
+            return 0;
+        };
+        let multiplier = row.get();
+        let now = multiplier.now.max(low).min(high);
+        row.set(Multiplier { now, ..multiplier });
+        now
+    }
+
+    /// Turns the direction of a row to the hits that it lacks. Returns the square of the direction, or 0 if the
+    /// multiplier is 0 and would fall.
+    pub fn aim(&self, row: usize, lacking: i64) -> u128 {
+        let Some(row) = self.rows.get(row) else {
+            return 0;
+        };
+        let multiplier = row.get();
+        let direction = (multiplier.direction / 8)
+            .saturating_mul(5)
+            .saturating_add(HIT.saturating_mul(lacking));
+        row.set(Multiplier {
+            direction,
+            ..multiplier
+        });
+        if multiplier.now == 0 && direction <= 0 {
+            return 0;
+        }
+        let size = u128::from(direction.unsigned_abs());
+        size.saturating_mul(size)
+    }
+
+    /// Keeps the multipliers, whose gap is the smallest so far.
+    fn keep(&self) {
+        for row in self.rows.iter() {
+            let multiplier = row.get();
+            row.set(Multiplier {
+                lowest: multiplier.now,
+                ..multiplier
+            });
+        }
+    }
+
+    /// Goes back to the multipliers with which the gap was the smallest.
+    fn restore(&self) {
+        for row in self.rows.iter() {
+            row.set(Multiplier::at(row.get().lowest));
+        }
+    }
+
+    /// Moves each multiplier by its direction, times `length`.
+    fn step(&self, length: u64) {
+        for row in self.rows.iter() {
+            let multiplier = row.get();
+            let way = length.saturating_mul(multiplier.direction.unsigned_abs());
+            let now = if multiplier.direction > 0 {
+                multiplier.now.saturating_add(way)
+            } else {
+                multiplier.now.saturating_sub(way)
+            };
+            row.set(Multiplier { now, ..multiplier });
+        }
+    }
+}
+
+/// What follows a round.
+#[derive(Clone, Copy)]
+enum Next {
+    /// The gap is smaller than all before.
+    Smaller,
+    Larger,
+    /// Steps get shorter, and go on where the gap was the smallest.
+    Back,
+    End,
+}
+
+/// How far the gap has closed.
+#[derive(Drop)]
+struct Progress {
+    effort: Effort,
+    smallest: u128,
+    // The candidates of the highest worths when the gap was the smallest.
+    best: CandSet,
+    // The smallest gap some rounds ago.
+    before: u128,
+    pace: u64,
+    stalled: u8,
+    rounds: u16,
+}
+
+impl Progress {
+    fn new(effort: Effort) -> Progress {
+        Progress {
+            effort,
+            smallest: u128::MAX,
+            best: CandSet::empty(),
+            before: u128::MAX,
+            pace: effort.pace,
+            stalled: 0,
+            rounds: 0,
+        }
+    }
+
+    /// Notes the gap of a round, and decides what follows.
+    fn next(&mut self, gap: Gap, best: CandSet) -> Next {
+        self.rounds = self.rounds.saturating_add(1);
+        let fall = self.smallest.saturating_sub(gap.size);
+        self.stalled = if fall > gap.size / LEAST_FALL {
+            0
+        } else {
+            self.stalled.saturating_add(1)
+        };
+        if fall > 0 {
+            self.smallest = gap.size;
+        }
+        if self.is_hopeless() {
+            return Next::End;
+        }
+        if fall > 0 {
+            self.best = best;
+            return Next::Smaller;
+        }
+        if self.stalled < self.effort.patience {
+            return Next::Larger;
+        }
+        self.stalled = 0;
+        self.pace = self.pace / 8 * 5;
+        if self.pace < self.effort.least_pace {
+            return Next::End;
+        }
+        Next::Back
+    }
+
+    /// Whether the gap closes too slowly, or is too large.
+    fn is_hopeless(&mut self) -> bool {
+        if let Some(large) = self.effort.large_gap {
+            return self.rounds == ROUNDS_BEFORE_DOUBT && self.smallest > large;
+        }
+        if self.rounds % ROUNDS_BETWEEN != 0 {
+            return false;
+        }
+        let gain = self.before.saturating_sub(self.smallest);
+        let rounds = u128::from(self.effort.rounds.saturating_sub(self.rounds));
+        self.before = self.smallest;
+        gain.saturating_mul(rounds) / 2 < self.smallest
+    }
+
+    /// How far multipliers move by their directions.
+    fn length(&self, gap: Gap, square: u128) -> u64
+        requires { 1 ≤ square }
+    {
+        let part = gap.way.saturating_mul(u128::from(self.pace)) / u128::from(WHOLE);
+        let length = part.saturating_mul(HIT as u128) / square;
+        length.min(u128::from(u64::MAX)) as u64
+    }
+
+    fn end(&self, free: Option<CandSet>) -> Moved
+        ensures { result.free ≡ free }
+    {
+        Moved {
+            free,
+            best: self.best,
+            rounds: u32::from(self.rounds),
+        }
+    }
+}

@@ -1,0 +1,4 @@
+pub mod BesideLemmas
+mod Examples
+pub mod PairBounds
+pub mod PriceBounds

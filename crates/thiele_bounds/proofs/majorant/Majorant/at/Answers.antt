@@ -1,0 +1,75 @@
+use Rattle.std.proofs.Common.{ℕ, ◌+◌, ◌*◌, ◌^◌, ◌≤◌, ap, arith, inl, inr, get_or}
+use Rattle.std.proofs.Math.Nat.{mul-le-mul}
+use Rattle.std.proofs.lemmas.Bool.{cases_eq}
+use Rattle.thiele_bounds.proofs.majorant.Majorant.at.Goals as goal
+use Rattle.thiele_bounds.proofs.majorant.Majorant.at.Goals.{then-touch-most, else-touch-most}
+
+-- an overlap for each pair of hits
+square : (overlap h : ℕ) → overlap ≤ 2 ^ 26 → h ≤ 64 → overlap * (h * h) ≤ 2 ^ 38
+square overlap h small few =
+    let pairs : h * h ≤ 64 * 64 = mul-le-mul few few in
+    let all : overlap * (h * h) ≤ 2 ^ 26 * (64 * 64) = mul-le-mul small pairs in
+    omega (arith, all)
+
+worth-small : (step overlap touch : ℕ) → step ≤ 2 ^ 26 → overlap ≤ 2 ^ 26 → touch ≤ 64 → step + overlap * (2 * touch + 1) ≤ 2 ^ 34
+worth-small step overlap touch low small few =
+    let all : overlap * (2 * touch + 1) ≤ 2 ^ 26 * 129 = mul-le-mul small (let top : 2 * touch + 1 ≤ 129 = omega (arith, few) in top) in
+    omega (arith, all, low)
+
+pub loop-hits-init : goal.loop-hits-init
+loop-hits-init c =
+    let step : c.if-touch-most.step ≤ 2 ^ 26 = elim c.if-touch-most.branch [
+      | then-touch-most t ↦ omega (arith, t.step-is, t.saturating_sub-step.ensures, c.requires.small (c.from-first.result + c.from.result + 1))
+      | else-touch-most t ↦ omega (arith, t.step-is)
+    ] in
+    record {
+      step_small = step;
+      overlap_small = omega (arith, step, c.bend-overlap.ensures);
+      small = omega arith;
+      above = λ h low. absurd (omega (arith, low));
+    }
+
+pub loop-hits-preserved : goal.loop-hits-preserved
+loop-hits-preserved c =
+    let inv = c.loop-hits.invariant in
+    let hits = c.loop-hits.hits in
+    let few : hits ≤ 64 = omega (arith, c.loop-hits-test.true, c.from-hits-end.ensures, c.requires.fits) in
+    record {
+      step_small = inv.step_small;
+      overlap_small = inv.overlap_small;
+      small = omega (arith, c.max-kept.ensures, c.saturating_sub.ensures, inv.small, c.requires.small (c.from-first.result + hits), square c.bend-overlap.result hits inv.overlap_small few);
+      above = λ h low. elim (cases_eq h hits) [
+        | inl same ↦ rw same (omega (arith, c.max-kept.ensures, c.saturating_sub.ensures))
+        | inr other ↦ omega (arith, inv.above h (omega (arith, low, other)), c.max-kept.ensures)
+      ];
+    }
+
+pub returns : goal.returns
+returns c = record {
+  bounds = λ h few. omega (
+    arith,
+    c.loop-hits.invariant.above h (omega (arith, few, c.loop-hits-test.false, c.from-hits-end.ensures)),
+    ap (λ n. get_or c.args.sums.now (n + h) 0) c.from-first.ensures,
+  );
+  small = record {
+    kept_small = c.loop-hits.invariant.small;
+    worth_small = worth-small c.if-touch-most.step c.bend-overlap.result c.from-4.result c.loop-hits.invariant.step_small c.loop-hits.invariant.overlap_small
+        (omega (arith, c.from-4.ensures, c.requires.touch, c.requires.fits));
+    overlap_small = c.loop-hits.invariant.overlap_small;
+  };
+}
+
+pub overflow_add-given-in-loop-hits : goal.overflow_add-given-in-loop-hits
+overflow_add-given-in-loop-hits c =
+    let few : c.loop-hits.hits ≤ 64 = omega (arith, c.loop-hits-test.true, c.from-hits-end.ensures, c.requires.fits) in
+    omega (arith, c.requires.small (c.from-first.result + c.loop-hits.hits), square c.bend-overlap.result c.loop-hits.hits c.loop-hits.invariant.overlap_small few)
+
+pub overflow_mul-worth-in-loop-hits : goal.overflow_mul-worth-in-loop-hits
+overflow_mul-worth-in-loop-hits c =
+    let hits = c.loop-hits.hits in
+    let worth : ℕ = c.if-touch-most.step + c.bend-overlap.result * (2 * c.from-4.result + 1) in
+    let few : hits ≤ 64 = omega (arith, c.loop-hits-test.true, c.from-hits-end.ensures, c.requires.fits) in
+    let small : worth ≤ 2 ^ 34 = worth-small c.if-touch-most.step c.bend-overlap.result c.from-4.result c.loop-hits.invariant.step_small c.loop-hits.invariant.overlap_small
+    (omega (arith, c.from-4.ensures, c.requires.touch, c.requires.fits)) in
+    let all : worth * hits ≤ 2 ^ 34 * 64 = mul-le-mul small few in
+    omega (arith, all)

@@ -1,0 +1,5 @@
+pub mod Majorants
+pub mod Paired
+pub mod Priced
+pub mod Rows
+pub mod Units

@@ -1,0 +1,51 @@
+//! Laws of the definitions. Each function does nothing, and its contract is the law.
+ghost use Rattle.std.specs.Prelude.{◌≡◌, true, ℕ, ◌+◌, ◌-◌, ◌*◌, ◌≤◌, min, List, length, sum_by};
+ghost use Rattle.std.specs.List.{AllByRecursion};
+ghost use Rattle.ballot_base.specs.Ballots.{Row, hits};
+ghost use Rattle.ballot_base.specs.Lists.{IsIncreasing};
+ghost use Rattle.ballot_base.specs.CandSet.{common_members, has_member};
+ghost use Rattle.tie_walk.specs.Values.{thiele_value};
+ghost use Rattle.row_bounds.specs.Completions.{IsNode, IsCompletion};
+ghost use Rattle.thiele_bounds.specs.Pairs.{IsMajorant, all_kept, all_overlap, all_worth, pair_sum, row_sum};
+ghost use Rattle.thiele_bounds.specs.Prices.{IsKept};
+
+/// A majorant for each row bounds what its voters give, by the hits among the added members. Summed over the rows, no
+/// committee is worth more than what all voters keep and the worths of the added members, less the overlaps of all
+/// ordered pairs of them, also of each with itself. Any numbers that make majorants are right.
+pub fn pairs()
+    ensures { (weights : List ℕ) (scale unit m : ℕ) (kept worth overlap : Row → ℕ) (rows : List Row)
+        (set free : List ℕ) (left : ℕ) (committee : List ℕ) → AllByRecursion (λ row. IsIncreasing 1 m row.0) rows
+        → IsNode m set free → IsCompletion m set free left committee
+        → AllByRecursion (λ row. IsMajorant weights scale unit (hits row.0 set) (min left (hits row.0 free))
+        (kept row) (worth row) (overlap row)) rows
+        → scale * thiele_value weights rows committee
+        + unit * pair_sum (all_overlap overlap rows) (common_members free committee)
+        ≤ unit * (all_kept kept rows + sum_by (all_worth worth rows) (common_members free committee)) }
+{}
+
+/// Row sums bound worths less overlaps. The row of a member has its own worth and that of each other member beside it,
+/// which is raised so that it is not below 0. Any threshold bounds a row: each of the others brings the threshold, and
+/// the excess of its worth beside the member over the threshold.
+pub fn row_sums()
+    ensures { (worth : ℕ → ℕ) (overlap : ℕ → ℕ → ℕ) (m left raise : ℕ) (threshold : ℕ → ℕ) (free members : List ℕ)
+        → 2 ≤ left → IsIncreasing 1 m free → IsIncreasing 1 m members → length members ≡ left
+        → ((n : ℕ) → has_member members n ≡ true → has_member free n ≡ true)
+        → ((i j : ℕ) → has_member free i ≡ true → has_member free j ≡ true
+        → 2 * (left - 1) * overlap i j ≤ worth j + raise)
+        → 2 * (left - 1) * sum_by worth members + left * left * raise
+        ≤ 2 * (left - 1) * pair_sum overlap members
+        + sum_by (λ i. row_sum worth overlap free left raise (threshold i) i) members }
+{}
+
+/// Prices bound the completions of a set, whatever multiplier is chosen for each row. The price of a candidate is the
+/// sum of the multipliers of the voters who approve it. No completion is worth more than what all voters keep and the
+/// prices of the added members.
+pub fn prices()
+    ensures { (weights : List ℕ) (scale unit m : ℕ) (kept multiplier : Row → ℕ) (rows : List Row)
+        (set free : List ℕ) (left : ℕ) (committee : List ℕ) → AllByRecursion (λ row. IsIncreasing 1 m row.0) rows
+        → IsNode m set free → IsCompletion m set free left committee
+        → AllByRecursion (λ row. IsKept weights scale unit (hits row.0 set) (min left (hits row.0 free))
+        (kept row) (multiplier row)) rows
+        → scale * thiele_value weights rows committee
+        ≤ unit * (all_kept kept rows + sum_by (all_worth multiplier rows) (common_members free committee)) }
+{}

@@ -1,0 +1,254 @@
+//! Concave quadratic majorants of what a voter gives.
+//!
+//! For h hits after the first ones, a voter gives at most `kept + worth * h - overlap * h * h`. Since h * h is the
+//! number of ordered pairs of members that the voter approves, majorants see where members overlap. Any `worth` and
+//! `overlap` are right, as `kept` is made as high as it must be.
+ghost use Rattle.std.specs.Prelude.{◌≡◌, ℕ, ◌+◌, ◌*◌, ◌^◌, ◌≤◌, min, slice_index, MatchOption, ⊤};
+ghost use Rattle.ballot_base.specs.Limits.{most_candidates, most_members};
+ghost use Rattle.ballot_base.specs.Increments.{increments};
+ghost use Rattle.thiele_bounds.specs.Steps.Paired.{AreSums, IsMajorantOf};
+ghost use Rattle.thiele_bounds.specs.Steps.Units.{most_given, most_given_to_pairs, most_units};
+
+use ballot_base::{Increments, PLACES, ThieleRule};
+use std::marker::Model;
+
+/// The first hit gives about this many units in sums for majorants: enough that rounding matters little.
+pub const PAIR_UNITS: u128 = 1 << 20;
+
+/// All hits of a voter together give at most this many times the first one.
+const MOST_FIRST_HITS: u128 = 64;
+
+/// What each number of hits gives in all: times the scale, in units. What each hit adds is rounded up, and no hit adds
+/// more than the one before it.
+#[derive(Drop)]
+pub struct HitSums {
+    pub scale: u128,
+    pub unit: u128,
+    pub sums: [u64; PLACES],
+    ghost some: { 1 ≤ unit },
+    ghost small: { (h : ℕ) → slice_index sums h ≤ most_given },
+    ghost rises: { (h : ℕ) → h + 1 ≤ most_candidates → slice_index sums h ≤ slice_index sums (h + 1) },
+    ghost concave: { (h : ℕ) → h + 2 ≤ most_candidates
+        → slice_index sums (h + 2) + slice_index sums h ≤ 2 * slice_index sums (h + 1) },
+}
+
+impl HitSums {
+    /// The sums under a rule, with about `units` units for the first hit. Returns `None` if they would be too large, or
+    /// if a hit added more than the one before it, as under no rule.
+    pub fn of(rule: ThieleRule, k: u8, units: u128) -> Option<HitSums>
+        requires some { 1 ≤ k }
+        requires size { k ≤ most_members }
+        requires units { 1 ≤ units }
+        requires few { units ≤ most_units }
+        ensures { MatchOption result ⊤ (λ given. AreSums (increments rule k) given.scale given.unit given.sums
+            × ((h : ℕ) → slice_index given.sums h ≤ 64 * units)) }
+    {
+        let weights = Increments::of(rule, k).w;
+        let scale = (units / weights[0].max(1)).max(1);
+        let unit = weights[0].div_ceil(units).max(1);
+        let mut sums = [0; PLACES];
+        let mut given: u128 = 0;
+        let mut last = u128::MAX;
+        for hits in 0..PLACES - 1 {
+            let increment = if hits < weights.len() {
+                (weights[hits] * scale).div_ceil(unit)
+            } else {
+                0
+            };
+            given += increment;
+            if increment > last || given > MOST_FIRST_HITS * units {
+                return None;
+            }
+            sums[hits + 1] = given as u64;
+            last = increment;
+        }
+        Some(HitSums { scale, unit, sums })
+    }
+
+    /// What the hit after the first `hits` gives. A hit past the last possible one gives nothing.
+    pub fn increment(&self, hits: u8) -> u64
+        ensures small { result ≤ most_given }
+        ensures rise { hits + 1 ≤ most_candidates
+            → slice_index self.now.sums (hits + 1) ≡ slice_index self.now.sums hits + result }
+    {
+        let before = usize::from(hits);
+        if before + 1 < PLACES {
+            self.sums[before + 1] - self.sums[before]
+        } else {
+            0
+        }
+    }
+
+    /// The maximum that a voter gives for the first `before` hits and up to `most` further ones, less the multiplier
+    /// for each further hit. No hit gives more than the one before it, so the first that gives too little ends the
+    /// count.
+    pub fn kept(&self, before: u8, most: u8, multiplier: u64) -> u64
+        requires fits { before + most ≤ most_candidates }
+        requires multiplier { multiplier ≤ most_given }
+        ensures bounds { (h : ℕ) → h ≤ most
+            → slice_index self.now.sums (before + h) ≤ result + multiplier * h }
+        ensures small { result ≤ most_given }
+    {
+        let mut hits = 0;
+        while hits < most && self.increment(before + hits) > multiplier {
+            hits += 1;
+        }
+        self.sums[usize::from(before + hits)] - multiplier * u64::from(hits)
+    }
+
+    /// The number of further hits after the first `before`, up to `most`, with which a voter keeps the maximum. Of
+    /// several such numbers it is the nearest to `hits`.
+    pub fn wanted(&self, before: u8, most: u8, multiplier: u64, hits: u8) -> u8
+        requires fits { before + most ≤ most_candidates }
+        ensures { result ≤ most }
+    {
+        let mut least = 0;
+        while least < most && self.increment(before + least) > multiplier {
+            least += 1;
+        }
+        let mut last = least;
+        while last < most && self.increment(before + last) == multiplier {
+            last += 1;
+        }
+        hits.max(least).min(last)
+    }
+}
+
+/// An upper bound on what a voter gives for h further hits: `kept + worth * h - overlap * h * h`.
+#[derive(Clone, Copy)]
+pub struct Majorant {
+    pub kept: u64,
+    pub worth: u64,
+    pub overlap: u64,
+}
+
+impl Majorant {
+    /// A majorant for up to `most` hits after the first `before`. It is exact at `touch` further hits and at one more,
+    /// as far as that can be.
+    pub fn at(sums: &[u64; PLACES], before: u8, most: u8, touch: u8) -> Majorant
+        requires small { (n : ℕ) → slice_index sums.now n ≤ most_given_to_pairs }
+        requires fits { before + most ≤ most_candidates }
+        requires touch { touch ≤ most }
+        ensures { IsMajorantOf sums.now before most result }
+    {
+        let first = usize::from(before);
+        let at = first + usize::from(touch);
+        let step = if touch < most {
+            sums[at + 1].saturating_sub(sums[at])
+        } else {
+            0
+        };
+        let rise = sums[first + usize::from(most)].saturating_sub(sums[at]);
+        let overlap = bend(step, rise, u64::from(most - touch));
+        let worth = step + overlap * (2 * u64::from(touch) + 1);
+        let mut kept = 0;
+        for hits in 0..usize::from(most) + 1 {
+            let given = sums[first + hits] + overlap * (hits * hits) as u64;
+            kept = given.saturating_sub(worth * hits as u64).max(kept);
+        }
+        Majorant {
+            kept,
+            worth,
+            overlap,
+        }
+    }
+}
+
+/// How much an increment falls by, in half a step, if the first is `step` and all `run` of them rise by `rise`.
+fn bend(step: u64, rise: u64, run: u64) -> u64
+    requires small { step ≤ most_given_to_pairs }
+    requires run { run ≤ most_candidates }
+    ensures { result ≤ step }
+{
+    if run < 2 {
+        return 0;
+    }
+    let fall = (step * run).saturating_sub(rise) / (run * (run - 1));
+    fall.min(step)
+}
+
+/// A table of majorants has places for fewer hits before than this.
+const PLACES_BEFORE: usize = 8;
+
+/// A table of majorants has places for ballots that approve fewer free candidates than this.
+const PLACES_OPEN: usize = 32;
+
+/// The number of places in a table of majorants.
+const TABLE_PLACES: usize = 256;
+
+/// The majorants of ballots if `left` of `free` candidates complete a set. Each is computed when it is first asked for,
+/// and kept. Contracts see the sums and `left`.
+#[derive(Drop)]
+pub struct Majorants<'a> {
+    sums: &'a [u64; PLACES],
+    left: u8,
+    free: u8,
+    table: [Option<Majorant>; TABLE_PLACES],
+}
+
+impl<'a> Model for Majorants<'a> {
+    ghost use Rattle.std.specs.Prelude.{ℕ, ◌≤◌, slice_index};
+    ghost use Rattle.thiele_bounds.specs.Steps.Majorants.{AreMajorants, Majorized};
+    ghost use Rattle.thiele_bounds.specs.Steps.Units.{most_given_to_pairs};
+
+    ghost Value = { Majorized };
+
+    ghost view = { λ t. record { sums = t.sums.now; left = t.left } };
+
+    ghost invariant = { λ t. (1 ≤ t.free) × ((n : ℕ) → slice_index t.sums.now n ≤ most_given_to_pairs)
+        × AreMajorants t.sums.now t.left t.table };
+}
+
+impl<'a> Majorants<'a> {
+    pub fn new(sums: &'a [u64; PLACES], left: u8, free: u8) -> Majorants<'a>
+        requires some { 1 ≤ free }
+        requires small { (n : ℕ) → slice_index sums.now n ≤ most_given_to_pairs }
+        ensures sums { result.sums ≡ sums.now }
+        ensures left { result.left ≡ left }
+    {
+        Majorants {
+            sums,
+            left,
+            free,
+            table: [None; TABLE_PLACES],
+        }
+    }
+
+    /// The majorant of a ballot that has `before` hits and approves `approved` free candidates.
+    pub fn of_ballot(&mut self, before: u8, approved: u8) -> Majorant
+        requires { before + approved ≤ most_candidates }
+        ensures majorant { IsMajorantOf self.old.sums before (min self.old.left approved) result }
+        ensures same { self.new ≡ self.old }
+    {
+        let (row, column) = (usize::from(before), usize::from(approved));
+        if row >= PLACES_BEFORE || column >= PLACES_OPEN {
+            return self.made(before, approved);
+        }
+        let place = PLACES_OPEN * row + column;
+        if let Some(majorant) = self.table[place] {
+            return majorant;
+        }
+        let majorant = self.made(before, approved);
+        self.table[place] = Some(majorant);
+        majorant
+    }
+
+    fn made(&self, before: u8, approved: u8) -> Majorant
+        requires { before + approved ≤ most_candidates }
+        ensures { IsMajorantOf self.now.sums before (min self.now.left approved) result }
+    {
+        let most = self.left.min(approved);
+        let touch = touch_point(approved, most, self.left, self.free);
+        Majorant::at(self.sums, before, most, touch)
+    }
+}
+
+/// The number of hits at which a majorant is exact, up to `most`: the mean if `left` of the free candidates are drawn
+/// at random. The quadratic with the lowest mean bound entered as many sets.
+fn touch_point(approved: u8, most: u8, left: u8, free: u8) -> u8
+    requires some { 1 ≤ free }
+    ensures { result ≤ most }
+{
+    let mean = usize::from(approved) * usize::from(left) / usize::from(free);
+    mean.min(usize::from(most)) as u8
+}

@@ -1,0 +1,240 @@
+//! Prices of candidates: a bound that needs no gains.
+//!
+//! Choose any multiplier for each row. A voter then gives a completion of a set at most what is kept, and the
+//! multiplier for each hit after those at the set. What is kept is a maximum over the numbers of hits that the node
+//! allows: what the hits give, less the multiplier for each further hit. Summed over the voters, no completion of the
+//! set is worth more than what all keep and the prices of the candidates that join (`laws::prices`; Fisher, The
+//! Lagrangian relaxation method for solving integer programming problems, 1981).
+//!
+//! The multipliers are moved (`tie_search::multipliers`). With prices of the whole election only, five parties with
+//! noise, 64 candidates and 10 seats took 8 s and not 0.8 s under `pav`.
+ghost use Rattle.std.specs.Prelude.{◌≡◌, ℕ, ◌+◌, ◌*◌, ◌≤◌, List, [], slice_index, MatchOption, ⊤};
+ghost use Rattle.ballot_base.specs.Limits.{most_candidates, most_members};
+ghost use Rattle.ballot_base.specs.Increments.{increments};
+ghost use Rattle.row_bounds.specs.Completions.{IsNode};
+ghost use Rattle.thiele_bounds.specs.Steps.Paired.{AreSums, AreTotals};
+ghost use Rattle.thiele_bounds.specs.Steps.Units.{most_given, most_priced};
+ghost use Rattle.thiele_bounds.specs.Steps.Priced.{ArePrices};
+
+use crate::majorant::HitSums;
+use ballot_base::{CandSet, Profile, Worths};
+use std::alloc::Allocator;
+use row_bounds::Node;
+use row_bounds::multipliers::{Constraint, Effort, Gap, Multipliers, RowBound, WHOLE, narrowed};
+use tie_walk::{Tally, ThieleTally};
+
+/// The first hit gives about this many units: enough that rounding matters little.
+const UNITS: u128 = 1 << 40;
+
+/// Multipliers of a whole search go on moving only if the gap is at most the value divided by this. Ballots that were
+/// drawn independently leave more, whatever the multipliers; small elections of these took 0.02 s longer.
+const LARGE_GAP: u128 = 64;
+
+/// For a node.
+pub const NODE: Effort = Effort {
+    rounds: 15,
+    pace: 410,
+    least_pace: 20,
+    patience: 4,
+    large_gap: None,
+    goes_back: true,
+};
+
+/// For the same node after a candidate was tried and left.
+pub const AGAIN: Effort = Effort { rounds: 4, ..NODE };
+
+/// For a whole search, once, if committees of this value in units are looked for.
+fn root(units: u128) -> Effort {
+    Effort {
+        rounds: 600,
+        pace: WHOLE,
+        least_pace: 1,
+        patience: 20,
+        large_gap: Some(units / LARGE_GAP),
+        goes_back: true,
+    }
+}
+
+/// What a search looks for by prices: the ballots, what hits give, a multiplier for each row, and the value that a
+/// committee has to reach.
+#[derive(Drop)]
+pub struct PriceSearch<'a, A: Allocator + Copy> {
+    pub profile: &'a Profile<A>,
+    pub tally: &'a ThieleTally<'a, A>,
+    pub given: &'a HitSums,
+    pub multipliers: &'a Multipliers<A>,
+    pub least: u128,
+    ghost size: { profile.now.m ≤ most_candidates },
+    ghost ballots: { profile.now ≡ tally.now.election },
+    ghost sums: { AreSums (increments tally.now.rule tally.now.k) given.now.scale given.now.unit given.now.sums },
+}
+
+/// What all voters keep at a node, and the price of each free candidate, in units.
+#[derive(Drop)]
+pub struct Prices {
+    pub kept: u128,
+    pub worths: Worths,
+}
+
+impl<A: Allocator + Copy> PriceSearch<'_, A> {
+    /// The prices at a node, by the present multipliers.
+    pub fn prices(&self, node: &Node) -> Prices
+        requires is_node { IsNode self.now.profile.now.m node.now.set node.now.free }
+        ensures totals { (weights : List ℕ)
+            → AreSums weights self.now.given.now.scale self.now.given.now.unit self.now.given.now.sums
+            → AreTotals weights self.now.given.now.scale self.now.given.now.unit self.now.profile.now.m
+            self.now.profile.now.rows node.now.set node.now.free node.now.left result.kept result.worths [] }
+        ensures kept { result.kept ≤ most_priced }
+        ensures worths { (n : ℕ) → slice_index result.worths n ≤ most_priced }
+    {
+        let mut kept = 0;
+        let mut worths = Worths::none();
+        for i in 0..self.profile.rows() {
+            let (ballot, voters) = self.profile.row(i);
+            let approved = ballot.common(node.free);
+            let before = ballot.common(node.set).len();
+            let most = node.left.min(approved.len());
+            let multiplier = self.multiplier(i, before, most);
+            let count = u128::from(voters);
+            kept += count * u128::from(self.given.kept(before, most, multiplier));
+            worths.add(approved, count * u128::from(multiplier));
+        }
+        Prices { kept, worths }
+    }
+
+    /// The multiplier of row i, which has `before` hits and can have up to `most` more. It is first moved between what
+    /// the first further hit gives and what the hit after the last would give.
+    fn multiplier(&self, i: usize, before: u8, most: u8) -> u64
+        requires fits { before + most ≤ most_candidates }
+        ensures { result ≤ most_given }
+    {
+        let last = self.given.increment(before + most);
+        self.multipliers
+            .within(i, last, self.given.increment(before))
+    }
+
+    /// Begins between the increments of the last hit of a good committee and of the next one.
+    fn begin(&self, good: CandSet) {
+        for i in 0..self.profile.rows() {
+            let (ballot, _voters) = self.profile.row(i);
+            let hits = ballot.common(good).len();
+            let next = self.given.increment(hits);
+            let last = match hits.checked_sub(1) {
+                Some(before) => self.given.increment(before),
+                None => next,
+            };
+            self.multipliers.begin(i, next / 2 + last / 2);
+        }
+    }
+}
+
+impl<A: Allocator + Copy> RowBound for PriceSearch<'_, A> {
+    ghost use Rattle.tie_walk.specs.Values.{tally_value};
+
+    ghost candidates = { λ search. search.profile.now.m };
+
+    ghost value_of = { λ search set. tally_value search.tally.now set };
+
+    ghost least = { λ search. search.least };
+
+    fn constraint(&self, node: &Node) -> Constraint {
+        let Prices { kept, worths } = self.prices(node);
+        Constraint {
+            paid: kept,
+            due: self.given.units(self.least),
+            worths,
+        }
+    }
+
+    fn gap(&self, constraint: &Constraint, best: CandSet) -> Gap {
+        let excess = constraint.excess(best);
+        Gap {
+            size: excess,
+            way: excess.saturating_add(1),
+        }
+    }
+
+    fn aim(&self, node: &Node, best: CandSet) -> u128 {
+        let mut square: u128 = 0;
+        for i in 0..self.profile.rows() {
+            let (ballot, voters) = self.profile.row(i);
+            let before = ballot.common(node.set).len();
+            let most = node.left.min(ballot.common(node.free).len());
+            let hits = ballot.common(best).len();
+            let multiplier = self.multiplier(i, before, most);
+            let wanted = self.given.wanted(before, most, multiplier, hits);
+            let lacking = i64::from(wanted).saturating_sub(i64::from(hits));
+            let size = self.multipliers.aim(i, lacking);
+            square = square.saturating_add(size.saturating_mul(u128::from(voters)));
+        }
+        square
+    }
+}
+
+/// The prices of a search among the committees of `k`: their parts, and the lowest prices of the whole election.
+#[derive(Drop)]
+pub struct Priced<A: Allocator> {
+    pub k: u8,
+    pub given: HitSums,
+    pub multipliers: Multipliers<A>,
+    pub whole: Prices,
+    // The candidates of the highest prices.
+    pub dearest: CandSet,
+    // Whether the prices show that no committee is better than the one that they were made for.
+    pub show_best: bool,
+}
+
+impl<A: Allocator + Copy> Priced<A> {
+    /// Prices for the committees of `k`. They are low if no committee is much better than `good`. Returns `None` if
+    /// there is no memory for them.
+    pub fn of(
+        memory: Option<Multipliers<A>>,
+        profile: &Profile<A>,
+        values: &ThieleTally<A>,
+        k: u8,
+        good: CandSet,
+    ) -> Option<Priced<A>>
+        requires some { 1 ≤ k }
+        requires size { k ≤ most_members }
+        requires ballots { profile.now ≡ values.now.election }
+        requires k_is { k ≡ values.now.k }
+        ensures { MatchOption result ⊤ (ArePrices values.now) }
+    {
+        let multipliers = memory?;
+        let given = HitSums::of(values.rule(), k, UNITS)?;
+        let candidates = CandSet::all(profile.m());
+        let all = Node {
+            set: CandSet::empty(),
+            value: 0,
+            free: candidates,
+            left: k,
+        };
+        let search = PriceSearch {
+            profile,
+            tally: values,
+            given: &given,
+            multipliers: &multipliers,
+            least: values.value(candidates.common(good)).saturating_add(1),
+        };
+        search.begin(good);
+        let moved = narrowed(&search, &multipliers, &all, root(given.units(search.least)));
+        let whole = search.prices(&all);
+        Some(Priced {
+            k,
+            given,
+            multipliers,
+            whole,
+            dearest: moved.best,
+            show_best: moved.free.is_none(),
+        })
+    }
+}
+
+impl HitSums {
+    /// A value in units. Every value with fewer units is lower.
+    pub fn units(&self, value: u128) -> u128
+        ensures { (units : ℕ) → self.now.scale * value ≤ self.now.unit * units → result ≤ units }
+    {
+        value.saturating_mul(self.scale).div_ceil(self.unit)
+    }
+}

@@ -1,6 +1,0 @@
-use Rattle.thiele_search.proofs.PairBounds.PairLemmas.{pairs-bound}
-use Rattle.thiele_search.proofs.laws.pairs.Goals as goal
-
-pub returns : goal.returns
-returns c weights scale unit m kept worth overlap rows set free left committee ballots is_node whole are =
-    pairs-bound weights scale unit m set free left committee is_node whole kept worth overlap rows ballots are
