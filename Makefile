@@ -14,7 +14,7 @@ program:
 	@here=$$PWD; $(sh) build_program "$(DIR)" "$(ARGS)" "$(USES)"
 else
 # The chain of crates that takes longest. Each begins as soon as it can, and if there are four jobs, with at least two.
-long := ballot_base tie_walk tie_search thiele_search
+long := ballot_base tie_walk thiele_bounds thiele_search
 all := $(shell $(sh) names_for $(copy) $(TOP))
 crates := $(filter $(all),$(long)) $(filter-out $(long),$(all))
 below = $(filter-out $1,$(shell $(sh) names_for $(copy) $1))

@@ -7,12 +7,12 @@ ghost use Rattle.tie_walk.specs.Winners.{IsStart};
 
 use ballot_base::{CandSet, Clones, KSets, Profile, ProfileBuilder, ThieleRule};
 use near_search::MinimaxSearch;
+use row_bounds::Node;
 use std::alloc::Global;
 use std::cell::Cell;
 use std::process::Abort;
 use thiele_search::{SearchMemory, ThieleSearch};
-use row_bounds::Node;
-use tie_search::{SearchWinners, Searchable, Tied};
+use tie_search::{SearchWinners, Searchable, Tied, WithClones};
 use tie_walk::{Tally, Winners};
 
 /// Asserts something about two numbers, and shows both if it fails. One message serves many tests, since each message
@@ -255,13 +255,15 @@ impl<'a, S: Searchable> Tally for CountedSearch<'a, S> {
     }
 }
 
-impl<'a, S: Searchable> Searchable for CountedSearch<'a, S> {
+impl<'a, S: Searchable> WithClones for CountedSearch<'a, S> {
     ghost class_of = { λ counted. S.class_of counted.search.now };
 
     fn clones(&self) -> &Clones {
         self.search.clones()
     }
+}
 
+impl<'a, S: Searchable> Searchable for CountedSearch<'a, S> {
     fn find(&self, node: &Node, least: u128) -> Option<CandSet> {
         count(self.finds);
         self.search.find(node, least)
