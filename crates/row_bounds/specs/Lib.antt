@@ -1,2 +1,3 @@
 pub mod Completions
+pub mod Limits
 pub mod Steps
