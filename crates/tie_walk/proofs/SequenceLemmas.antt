@@ -8,7 +8,7 @@ use Rattle.std.specs.Cmp.{IsTotalOrder}
 use Rattle.std.specs.Cmp.Lexicographic.{slice_cmp}
 use Rattle.std.specs.Ordering.{nat_cmp, ordering_reverse}
 use Rattle.std.specs.declared.cmp.Ordering.TheVariants.{Less, Equal, Greater}
-use Rattle.std.proofs.lemmas.Bool.{cases_Bool, cases_eq, cases_order, ne_eqb, not-true}
+use Rattle.std.proofs.lemmas.Bool.{cases_Bool, cases_eq, ne_eqb, not-true}
 use Rattle.std.proofs.lemmas.Cmp.{nat_list_cmp_total, tied_itself}
 use Rattle.std.proofs.lemmas.List.Elements.{All-from_recursion, All-contains}
 use Rattle.std.proofs.lemmas.List.Kept.{IsStrictlySortedBy-filter}
@@ -29,7 +29,7 @@ use Rattle.tie_walk.specs.declared.sequential.Step.{Step}
 use Rattle.tie_walk.specs.declared.sequential.Step.TheVariants.{Grow, Shrink}
 use Rattle.tie_walk.proofs.Choices.{reached_start, reached_last, is_made, reached_from_made, made_from_reached}
 use Rattle.tie_walk.proofs.LawLemmas.{passes-from_filter, Contains-filter, IsIncreasing-range}
-use Rattle.tie_walk.proofs.LevelLemmas.{both_false, in_bounds, choice-parts, followed-candidates, reached-increasing}
+use Rattle.tie_walk.proofs.LevelLemmas.{in_bounds, choice-parts, followed-candidates, reached-increasing}
 use Rattle.tie_walk.proofs.StepLemmas.{has_member-range}
 
 -- ---- the size of a reached set

@@ -6,7 +6,7 @@ ghost use Rattle.ballot_base.specs.CandSet.{has_member};
 ghost use Rattle.ballot_base.specs.Increments.{increments};
 ghost use Rattle.tie_walk.specs.Ceilings.{IsTight, ceiling};
 ghost use Rattle.tie_walk.specs.Sequences.{gain};
-ghost use Rattle.tie_walk.specs.Values.{thiele_value, thiele_of};
+ghost use Rattle.tie_walk.specs.Values.{tally_value, thiele_of};
 ghost use Rattle.tie_walk.specs.Steps.Tables.{prefix_sums};
 
 use crate::sequential::Step;
@@ -92,10 +92,9 @@ impl<'a, A: Allocator + Copy> ThieleTally<'a, A> {
 impl<'a, A: Allocator + Copy> Tally for ThieleTally<'a, A> {
     ghost candidates = { λ tally. tally.election.m };
 
-    ghost value_of = { λ tally set. thiele_value (increments tally.rule tally.k) tally.election.rows set };
+    ghost value_of = { λ tally set. tally_value tally set };
 
-    ghost bound_of = { λ tally c set left.
-        ceiling (thiele_value (increments tally.rule tally.k) tally.election.rows) tally.election.m c set left };
+    ghost bound_of = { λ tally c set left. ceiling (tally_value tally) tally.election.m c set left };
 
     fn m(&self) -> u8 {
         self.m
