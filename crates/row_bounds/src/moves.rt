@@ -41,7 +41,7 @@ const MEMORY: u64 = 50;
 pub struct Moves {
     // The work of a round over the rows.
     round: u64,
-    // All work so far.
+    // All work of the search so far.
     done: Cell<u64>,
     levels: [Cell<Level>; PLACES],
 }
@@ -60,6 +60,11 @@ impl Moves {
             done: Cell::new(0),
             levels: array::from_fn(|_| Cell::new(Level::NONE)),
         }
+    }
+
+    /// Begins a search: nothing is moved until it has lasted a while. What was learnt in those before still counts.
+    pub fn begin(&self) {
+        self.done.set(0);
     }
 
     /// Enters a node with `left` seats left. As a search goes depth first, all work since an earlier node with as many
@@ -144,8 +149,10 @@ impl Level {
     /// Ends the count of the work below a node.
     fn close(&mut self, done: u64) {
         if let Some(before) = self.open.take() {
-            self.below
-                .note(done.saturating_sub(before).saturating_mul(PARTS));
+            // A count of an earlier search ends without a number.
+            if let Some(work) = done.checked_sub(before) {
+                self.below.note(work.saturating_mul(PARTS));
+            }
         }
     }
 
