@@ -29,9 +29,6 @@ const TRIALS_OF_MOVES: u64 = 4;
 /// ended, it was too high, and 40 random candidates took fifteen times as long under `cc`.
 const LEFT_ALONE: u32 = 16;
 
-/// If moves do not pay, they are made at one of this many nodes, so that this is judged anew.
-const SAMPLE_OF_MOVES: u32 = 64;
-
 /// A mean is of about this many numbers, the last ones, so that old ones are forgotten.
 const MEMORY: u64 = 50;
 
@@ -132,8 +129,6 @@ struct Level {
     below: Mean,
     // All work up to the beginning of the node whose work below is being counted.
     open: Option<u64>,
-    // Whether nothing is moved at the last node, so that the work below it is seen.
-    is_left_alone: bool,
 }
 
 impl Level {
@@ -143,7 +138,6 @@ impl Level {
         cost: Mean::NONE,
         below: Mean::NONE,
         open: None,
-        is_left_alone: false,
     };
 
     /// Ends the count of the work below a node.
@@ -160,20 +154,16 @@ impl Level {
     /// more work below it than most.
     fn enter(&mut self, done: u64, has_begun: bool) {
         self.nodes = self.nodes.wrapping_add(1);
-        self.is_left_alone = self.nodes % LEFT_ALONE == 0;
         let is_moved = has_begun && self.is_due();
         self.open = (!is_moved).then_some(done);
     }
 
     /// Whether moves save as much work as they cost, or are to be tried.
     fn is_due(&self) -> bool {
-        if self.is_left_alone {
-            return false;
-        }
-        self.below.count == 0
-            || self.success.count < TRIALS_OF_MOVES
-            || self.success.value.saturating_mul(self.below.value) / PARTS >= self.cost.value
-            || self.nodes % SAMPLE_OF_MOVES == 0
+        self.nodes % LEFT_ALONE != 0
+            && (self.below.count == 0
+                || self.success.count < TRIALS_OF_MOVES
+                || self.success.value.saturating_mul(self.below.value) / PARTS >= self.cost.value)
     }
 }
 
