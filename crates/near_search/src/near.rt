@@ -8,19 +8,17 @@
 //! If several seats are left and several candidates are to be tried, all needs are also added up, each with a weight
 //! (module `weights`).
 ghost use Rattle.std.specs.Prelude.{◌≡◌, ℕ, ◌-◌, ◌≤◌, length, slice_index, MatchOption, ⊤};
-ghost use Rattle.ballot_base.specs.Clones.{AreClones, clones_among};
 ghost use Rattle.ballot_base.specs.Limits.{most_candidates};
 ghost use Rattle.ballot_base.specs.Worths.{AreTooLow, AreWanted};
 ghost use Rattle.row_bounds.specs.Completions.{IsNode};
-ghost use Rattle.tie_walk.specs.Values.{closeness};
-ghost use Rattle.near_search.specs.Steps.Near.{AreBallots, AreBallots-prop, AreBranches, IsHopeless, IsNearPlan};
+ghost use Rattle.near_search.specs.Steps.Near.{AreBranches, IsHopeless, IsNearPlan};
 
+use crate::minimax::MinimaxSearch;
 use crate::needs::still_needed;
-use crate::weights::{NeedSearch, Shares, Weighing};
-use ballot_base::{CandSet, Clones, Profile, Worths};
+use crate::weights::{NeedSearch, Weighing};
+use ballot_base::{CandSet, Worths};
+use row_bounds::Node;
 use std::alloc::Allocator;
-use row_bounds::multipliers::Multipliers;
-use row_bounds::{Moves, Node};
 use tie_search::descent::{Narrowing, Plan};
 use tie_walk::{MinimaxTally, Tally};
 
@@ -33,42 +31,18 @@ const FEWEST_SEATS: u8 = 4;
 /// right.
 const FEWEST_CHOICES: u8 = 3;
 
-/// What all steps of a search share: the ballots, their clones, the shares and the moved weights for the weights of
-/// ballots, and where it pays to move these.
-#[derive(Drop)]
-pub(crate) struct NearSearch<'a, A: Allocator + Copy> {
-    pub(crate) profile: &'a Profile<A>,
-    pub(crate) clones: &'a Clones,
-    pub(crate) shares: &'a Shares,
-    pub(crate) weights: Option<&'a Multipliers<A>>,
-    pub(crate) moves: &'a Moves,
-    ghost size: { profile.now.m ≤ most_candidates },
-    ghost ballots: { AreBallots profile.now.m profile.now.rows } by { AreBallots-prop profile.now.m profile.now.rows },
-    ghost classes: { AreClones profile.now.m profile.now.rows clones.now },
-}
-
-impl<A: Allocator + Copy> Narrowing for NearSearch<'_, A> {
-    ghost candidates = { λ search. search.profile.now.m };
-
-    ghost value_of = { λ search set. closeness search.profile.now.m search.profile.now.rows set };
-
-    ghost class_of = { λ search c. clones_among search.profile.now.m search.profile.now.rows c };
-
+impl<A: Allocator + Copy> Narrowing for MinimaxSearch<'_, A> {
     // A whole committee is valued when it is reached.
-    ghost is_valued = { λ search set value. ⊤ };
+    ghost is_valued = { λ election set value. ⊤ };
 
-    ghost is_plan = { λ search set left plan. IsNearPlan search.profile.now set left plan };
-
-    fn clones(&self) -> &Clones {
-        self.clones
-    }
+    ghost is_plan = { λ election set left plan. IsNearPlan election set left plan };
 
     fn whole_value(&self, node: &Node) -> u128 {
         MinimaxTally::new(self.profile).value(node.set)
     }
 
     fn plan(&self, node: &Node, least: u128) -> Option<Plan> {
-        let m = self.profile.m();
+        let m = self.m();
         if least > u128::from(m) {
             return None;
         }
@@ -83,7 +57,7 @@ impl<A: Allocator + Copy> Narrowing for NearSearch<'_, A> {
             weighing: self.weighing(node.left, choices),
             most,
         };
-        let free = search.moved(&narrowed, self.moves)?;
+        let free = search.moved(&narrowed, &self.moves)?;
         let here = Node { free, ..*node };
         let needs = search.needs(&here);
         Some(Plan {
@@ -96,7 +70,7 @@ impl<A: Allocator + Copy> Narrowing for NearSearch<'_, A> {
     }
 
     fn narrowed(&self, plan: &Plan, node: &Node, least: u128) -> Option<CandSet> {
-        if least > u128::from(self.profile.m()) {
+        if least > u128::from(self.m()) {
             return None;
         }
         members_for(&plan.worths, node, plan.due)
@@ -112,14 +86,14 @@ impl<A: Allocator + Copy> Narrowing for NearSearch<'_, A> {
     }
 }
 
-impl<'a, A: Allocator + Copy> NearSearch<'a, A> {
+impl<A: Allocator + Copy> MinimaxSearch<'_, A> {
     /// Two sets: branching candidates, at least one of which must join so that no ballot is farther than `most`; and
     /// the candidates that are still eligible. Returns `None` if some ballot needs more hits than it can have.
     fn choices(&self, node: &Node, most: u8) -> Option<(CandSet, CandSet)>
-        requires is_node { IsNode self.now.profile.now.m node.now.set node.now.free }
+        requires is_node { IsNode self.now.m node.now.set node.now.free }
         requires some { 1 ≤ node.now.left }
-        ensures { MatchOption result (IsHopeless self.now.profile.now most node.now.set node.now.free node.now.left)
-            (λ both. AreBranches self.now.profile.now most node.now.set node.now.free node.now.left both.0 both.1) }
+        ensures { MatchOption result (IsHopeless self.now most node.now.set node.now.free node.now.left)
+            (λ both. AreBranches self.now most node.now.set node.now.free node.now.left both.0 both.1) }
     {
         if node.free.len() < node.left {
             return None;
@@ -149,14 +123,14 @@ impl<'a, A: Allocator + Copy> NearSearch<'a, A> {
     }
 
     /// Enters a node with `left` seats left, and chooses weights. The `choices` are to be tried.
-    fn weighing(&self, left: u8, choices: CandSet) -> Weighing<'a, A> {
+    fn weighing(&self, left: u8, choices: CandSet) -> Weighing<'_, A> {
         self.moves.enter(left);
         if left < FEWEST_SEATS || choices.len() < FEWEST_CHOICES {
             return Weighing::Nothing;
         }
-        match self.weights {
+        match &self.weights {
             Some(weights) if self.moves.are_due(left) => Weighing::Moved(weights),
-            _ => Weighing::ByShare(self.shares),
+            _ => Weighing::ByShare(&self.shares),
         }
     }
 }

@@ -15,9 +15,9 @@ ghost use Rattle.near_search.specs.Steps.Near.{AreBallots, AreBallots-prop, AreW
 
 use crate::needs::still_needed;
 use ballot_base::{CandSet, MOST_CANDIDATES, PLACES, Profile, Worths};
-use std::alloc::Allocator;
 use row_bounds::multipliers::{Constraint, Effort, Gap, Multipliers, RowBound, WHOLE, narrowed};
 use row_bounds::{Moves, Node};
+use std::alloc::Allocator;
 
 /// Each moved weight begins with this number: enough that rounding matters little.
 pub(crate) const FIRST_WEIGHT: u64 = 1 << 20;

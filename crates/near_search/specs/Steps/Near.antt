@@ -2,7 +2,7 @@
 use Rattle.std.specs.Prelude.{◌≡◌, ℕ, ◌-◌, ◌+◌, ◌≤◌, true, List, [], ◌∷◌, length, slice_index, sum_by}
 use Rattle.std.specs.Coded.{Unit-prop, ×_prop}
 use Rattle.std.specs.List.{AllByRecursion}
-use Rattle.ballot_base.specs.Ballots.{Row, Election, hits}
+use Rattle.ballot_base.specs.Ballots.{Row, Election, IsElection, hits}
 use Rattle.ballot_base.specs.Lists.{IsIncreasing}
 use Rattle.ballot_base.specs.Steps.Lists.{IsIncreasing-prop}
 use Rattle.ballot_base.specs.CandSet.{has_member}
@@ -38,6 +38,7 @@ AreWeighted e k most set free total supports = (more : List ℕ) → IsIncreasin
 
 -- what a search knows at a set: weighted needs for the value that its completions must reach
 pub record IsNearPlan (e : Election) (set : List ℕ) (left : ℕ) (plan : Plan) : Type 0 where
+  pub valid : IsElection e
   pub most : ℕ
   pub least_is : plan.least ≡ e.m - most
   pub weighted : AreWeighted e (length set + left) most set plan.eligible plan.due plan.worths

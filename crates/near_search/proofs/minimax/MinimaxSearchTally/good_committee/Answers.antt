@@ -6,8 +6,8 @@ use Rattle.near_search.proofs.minimax.MinimaxSearchTally.good_committee.Goals as
 
 pub returns : goal.returns
 returns g c =
-    let size : c.self.inside.m ≡ c.args.self.now.m = c.self.invariant.1 ∙ ap (λ (e : Election). e.m) c.self.view_is in (
+    let size : c.m.result ≡ c.args.self.now.m = c.m.ensures.value in (
       subst (λ n. IsIncreasing 1 n c.common-committee.result) size
-          (candidates-among c.self.inside.m c.all.result _ c.common-committee.result c.all.ensures c.common-committee.ensures),
+          (candidates-among c.m.result c.all.result _ c.common-committee.result c.all.ensures c.common-committee.ensures),
       omega (arith, c.len.ensures.count, c.if-len-k.false),
     )
