@@ -9,14 +9,13 @@
 //! (module `weights`).
 ghost use Rattle.std.specs.Prelude.{◌≡◌, ℕ, ◌-◌, ◌≤◌, length, slice_index, MatchOption, ⊤};
 ghost use Rattle.ballot_base.specs.Limits.{most_candidates};
-ghost use Rattle.ballot_base.specs.Worths.{AreTooLow, AreWanted};
 ghost use Rattle.row_bounds.specs.Completions.{IsNode};
 ghost use Rattle.near_search.specs.Steps.Near.{AreBranches, IsHopeless, IsNearPlan};
 
 use crate::minimax::MinimaxSearch;
 use crate::needs::still_needed;
 use crate::weights::{NeedSearch, Weighing};
-use ballot_base::{CandSet, Worths};
+use ballot_base::CandSet;
 use row_bounds::Node;
 use std::alloc::Allocator;
 use tie_search::descent::{Narrowing, Plan};
@@ -61,7 +60,7 @@ impl<A: Allocator + Copy> Narrowing for MinimaxSearch<'_, A> {
         let here = Node { free, ..*node };
         let needs = search.needs(&here);
         Some(Plan {
-            eligible: members_for(&needs.worths, &here, needs.due)?,
+            eligible: needs.worths.members_for(free, node.left, needs.due)?,
             choices,
             worths: needs.worths,
             due: needs.due,
@@ -73,7 +72,7 @@ impl<A: Allocator + Copy> Narrowing for MinimaxSearch<'_, A> {
         if least > u128::from(self.m()) {
             return None;
         }
-        members_for(&plan.worths, node, plan.due)
+        plan.worths.members_for(node.free, node.left, plan.due)
     }
 
     fn child(&self, _plan: &Plan, node: &Node, next: u8) -> Node {
@@ -133,18 +132,6 @@ impl<A: Allocator + Copy> MinimaxSearch<'_, A> {
             _ => Weighing::ByShare(&self.shares),
         }
     }
-}
-
-/// The free candidates of a node that can join, if all that join must be worth `due` together. Returns `None` only if
-/// no free candidates are worth that.
-fn members_for(worths: &Worths, node: &Node, due: u128) -> Option<CandSet>
-    ensures { MatchOption result (AreTooLow (slice_index worths.now) node.now.free node.now.left due)
-        (AreWanted (slice_index worths.now) node.now.free node.now.left due) }
-{
-    if due == 0 {
-        return Some(node.free);
-    }
-    worths.members_for(node.free, node.left, due)
 }
 
 /// Whether a ballot can spare fewer free candidates than the tightest before, or equally few and needs more hits. Both
