@@ -79,10 +79,7 @@ impl<'a, A: Allocator + Copy> Tally for MinimaxSearch<'a, A> {
 
     fn good_committee(&self, k: u8) -> Option<CandSet> {
         let committee = CandSet::all(self.m()).common(near_committee(self.profile, k));
-        if committee.len() != k {
-            return None;
-        }
-        Some(committee)
+        (committee.len() == k).then_some(committee)
     }
 }
 

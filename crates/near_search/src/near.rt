@@ -10,13 +10,14 @@
 ghost use Rattle.std.specs.Prelude.{◌≡◌, ℕ, ◌-◌, ◌≤◌, length, slice_index, MatchOption, ⊤};
 ghost use Rattle.ballot_base.specs.Limits.{most_candidates};
 ghost use Rattle.row_bounds.specs.Completions.{IsNode};
-ghost use Rattle.near_search.specs.Steps.Near.{AreBranches, IsHopeless, IsNearPlan};
+ghost use Rattle.near_search.specs.Steps.Near.{Branches, IsNearPlan};
 
 use crate::minimax::MinimaxSearch;
 use crate::needs::still_needed;
 use crate::weights::{NeedSearch, Weighing};
 use ballot_base::CandSet;
 use row_bounds::Node;
+use row_bounds::multipliers::RowBound;
 use std::alloc::Allocator;
 use tie_search::descent::{Narrowing, Plan};
 use tie_walk::{MinimaxTally, Tally};
@@ -46,24 +47,20 @@ impl<A: Allocator + Copy> Narrowing for MinimaxSearch<'_, A> {
             return None;
         }
         let most = m - least as u8;
-        let (choices, eligible) = self.choices(node, most)?;
-        let narrowed = Node {
-            free: eligible,
-            ..*node
-        };
+        let (choices, free) = self.choices(node, most)?;
         let search = NeedSearch {
             profile: self.profile,
             weighing: self.weighing(node.left, choices),
             most,
         };
-        let free = search.moved(&narrowed, &self.moves)?;
+        let free = search.moved(&Node { free, ..*node }, &self.moves)?;
         let here = Node { free, ..*node };
-        let needs = search.needs(&here);
+        let needs = search.constraint(&here);
         Some(Plan {
-            eligible: needs.worths.members_for(free, node.left, needs.due)?,
+            eligible: needs.narrowed(&here)?,
             choices,
             worths: needs.worths,
-            due: needs.due,
+            due: needs.due.saturating_sub(needs.paid),
             least,
         })
     }
@@ -91,17 +88,17 @@ impl<A: Allocator + Copy> MinimaxSearch<'_, A> {
     fn choices(&self, node: &Node, most: u8) -> Option<(CandSet, CandSet)>
         requires is_node { IsNode self.now.m node.now.set node.now.free }
         requires some { 1 ≤ node.now.left }
-        ensures { MatchOption result (IsHopeless self.now most node.now.set node.now.free node.now.left)
-            (λ both. AreBranches self.now most node.now.set node.now.free node.now.left both.0 both.1) }
+        ensures { Branches self.now most node.now result }
     {
         if node.free.len() < node.left {
             return None;
         }
         let mut choices = node.free;
         let mut rest = node.free;
-        let mut tightest = (u8::MAX, 0);
+        let mut fewest = u8::MAX;
+        let mut most_needed = 0;
         for (ballot, _voters) in self.profile.ballots() {
-            let needed = still_needed(ballot, node.set, node.left, most);
+            let needed = still_needed(ballot, node, most);
             if needed == 0 {
                 continue;
             }
@@ -113,9 +110,11 @@ impl<A: Allocator + Copy> MinimaxSearch<'_, A> {
                 rest = open;
             }
             let spare = open.len() - needed;
-            if is_tighter((spare, needed), tightest) {
+            // Any ballot that needs a hit is right. A tight one leaves few candidates to try.
+            if spare < fewest || spare == fewest && needed > most_needed {
                 choices = open;
-                tightest = (spare, needed);
+                fewest = spare;
+                most_needed = needed;
             }
         }
         Some((choices, rest))
@@ -132,13 +131,4 @@ impl<A: Allocator + Copy> MinimaxSearch<'_, A> {
             _ => Weighing::ByShare(&self.shares),
         }
     }
-}
-
-/// Whether a ballot can spare fewer free candidates than the tightest before, or equally few and needs more hits. Both
-/// are given as (candidates to spare, hits needed). Any ballot that needs a hit is right; a tight one leaves few
-/// candidates to try.
-fn is_tighter(ballot: (u8, u8), tightest: (u8, u8)) -> bool {
-    let (spare, needed) = ballot;
-    let (fewest, most_needed) = tightest;
-    spare < fewest || spare == fewest && needed > most_needed
 }

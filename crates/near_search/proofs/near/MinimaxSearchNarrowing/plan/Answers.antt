@@ -1,56 +1,60 @@
-use Rattle.std.proofs.Common.{◌+◌, ◌-◌, ◌≡◌, None, Some, ℕ, List, refl, arith, length}
-use Rattle.ballot_base.specs.Ballots.{Election}
+use Rattle.std.proofs.Common.{◌-◌, ◌≡◌, refl, arith, slice_index}
 use Rattle.tie_walk.specs.Values.{closeness}
-use Rattle.row_bounds.specs.Steps.Narrowed.{IsNarrowed}
+use Rattle.row_bounds.specs.Steps.Constraints.{IsConstraint}
+use Rattle.row_bounds.specs.Steps.Narrowed.{IsNarrowed, Narrows}
 use Rattle.row_bounds.proofs.NarrowedLemmas.{narrowed-more, narrowed-out}
-use Rattle.near_search.specs.Steps.Near.{AreBranches, AreEligible}
-use Rattle.near_search.proofs.WeightedNeeds.{needs-narrow, weighted-fewer}
+use Rattle.near_search.proofs.WeightedNeeds.{paid-fewer}
 use Rattle.near_search.proofs.near.MinimaxSearchNarrowing.plan.Goals as goal
+use Rattle.near_search.proofs.near.MinimaxSearchNarrowing.plan.Goals.{After-narrowed}
 
--- who can still join by the needs of each ballot, and by weights that are moved
-both : (e : Election) (most least : ℕ) (set free choices eligible kept : List ℕ) (left : ℕ) → e.m - most ≡ least → AreBranches e most set free left choices eligible
-    → AreEligible e most set eligible left kept → IsNarrowed (closeness e.m e.rows) e.m set free left least kept
-both e most least set free choices eligible kept left is branches more =
-    rw is at (narrowed-more (closeness e.m e.rows) e.m set free eligible left (e.m - most) branches.narrowed kept more)
+-- the distance is for the value that is looked for
+least-is : (g : _) (c : After-narrowed g) → c.args.self.now.m - (c.m-m.result - c.args.least) ≡ c.args.least
+least-is g c = omega (arith, c.m-m.ensures.value, c.from.ensures, c.if-least-from.false)
 
-pub returns-in_err-members_for : goal.returns-in_err-members_for
-returns-in_err-members_for g c =
+-- the free candidates that can still join by the needs of each ballot, and by weights that are moved
+first : (g : _) (c : After-narrowed g)
+    → IsNarrowed (closeness c.args.self.now.m c.args.self.now.rows) c.args.self.now.m c.args.node.now.set c.args.node.now.free c.args.node.now.left c.args.least c.in_ok-free.free
+first g c =
     let e = c.args.self.now in
-    let valid = rw c.self.view_is at c.self.invariant.0 in
     let node = c.args.node.now in
-    let most : ℕ = c.m-m.result - c.args.least in
-    let is : e.m - most ≡ c.args.least = omega (arith, c.m-m.ensures.value, c.from.ensures, c.if-least-from.false) in
-    let needs = c.needs-needs.result in
-    let weighted = rw c.self.view_is at c.needs-needs.ensures.weighted in
-    let free = c.in_ok-free.free in
-    let narrowed = both e most c.args.least node.set node.free c.in_ok-choices.choices c.in_ok-choices.eligible free node.left is c.in_ok-choices.ensures (rw c.self.view_is at c.in_ok-free.ensures) in
-    rw c.from_residual-in_err-members_for.ensures
-    (narrowed-out (closeness e.m e.rows) e.m node.set node.free free node.left c.args.least narrowed
-    (needs-narrow e most c.args.least node.set free node.left needs.due needs.worths valid.most valid.ballots is narrowed.is_node weighted None
-    c.in_err-members_for.ensures))
+    let most = c.m-m.result - c.args.least in
+    rw (least-is g c) at (narrowed-more (closeness e.m e.rows) e.m node.set node.free c.in_ok-choices.free node.left (e.m - most) c.in_ok-choices.ensures.1 c.in_ok-free.free
+    (rw c.self.view_is at c.in_ok-free.ensures))
+
+-- what the weighted needs say of these
+pays : (g : _) (c : After-narrowed g) → IsConstraint (closeness c.args.self.now.m c.args.self.now.rows) c.args.self.now.m record { set = c.args.node.now.set; value = c.args.node.now.value; free = c.in_ok-free.free; left = c.args.node.now.left } c.args.least c.constraint-needs.result
+pays g c = rw (least-is g c) at (rw c.self.view_is at c.constraint-needs.ensures.constraint)
+
+second : (g : _) (c : After-narrowed g) → Narrows (closeness c.args.self.now.m c.args.self.now.rows) c.args.self.now.m record { set = c.args.node.now.set; value = c.args.node.now.value; free = c.in_ok-free.free; left = c.args.node.now.left } c.args.least c.narrowed.result
+second g c =
+    let e = c.args.self.now in
+    c.narrowed.ensures (closeness e.m e.rows) e.m c.args.least (rw c.self.view_is at c.self.invariant.0).most (first g c).is_node (pays g c)
+
+pub returns-in_err-narrowed : goal.returns-in_err-narrowed
+returns-in_err-narrowed g c =
+    let e = c.args.self.now in
+    let node = c.args.node.now in
+    let at = (goal.at.returns-in_err-narrowed g c).After-narrowed in
+    rw c.from_residual-in_err-narrowed.ensures (narrowed-out (closeness e.m e.rows) e.m node.set node.free c.in_ok-free.free node.left c.args.least (first g at) (rw c.in_err-narrowed.was at (second g at)))
 
 pub returns : goal.returns
 returns g c =
     let e = c.args.self.now in
-    let valid = rw c.self.view_is at c.self.invariant.0 in
+    let V = closeness e.m e.rows in
     let node = c.args.node.now in
-    let most : ℕ = c.m-m.result - c.args.least in
-    let is : e.m - most ≡ c.args.least = omega (arith, c.m-m.ensures.value, c.from.ensures, c.if-least-from.false) in
-    let needs = c.needs-needs.result in
-    let weighted = rw c.self.view_is at c.needs-needs.ensures.weighted in
+    let at = (goal.at.returns g c).After-narrowed in
     let free = c.in_ok-free.free in
-    let kept = c.in_ok-members_for.field-0 in
-    let narrowed = both e most c.args.least node.set node.free c.in_ok-choices.choices c.in_ok-choices.eligible free node.left is c.in_ok-choices.ensures (rw c.self.view_is at c.in_ok-free.ensures) in
-    let fewer : IsNarrowed (closeness e.m e.rows) e.m node.set free node.left c.args.least kept =
-    needs-narrow e most c.args.least node.set free node.left needs.due needs.worths valid.most valid.ballots is narrowed.is_node weighted (Some kept)
-    c.in_ok-members_for.ensures in (
-      narrowed-more (closeness e.m e.rows) e.m node.set node.free free node.left c.args.least narrowed kept fewer,
-      rw is at c.in_ok-choices.ensures.choices_are,
+    let needs = c.constraint-needs.result in
+    let kept = c.in_ok-narrowed.field-0 in
+    let fewer : IsNarrowed V e.m node.set free node.left c.args.least kept = rw c.in_ok-narrowed.was at (second g at) in (
+      narrowed-more V e.m node.set node.free free node.left c.args.least (first g at) kept fewer,
+      rw (least-is g at) at c.in_ok-choices.ensures.0,
       record {
-        valid = valid;
-        most = most;
-        least_is = omega (arith, is);
-        weighted = weighted-fewer e (length node.set + node.left) most node.set free kept needs.due needs.worths weighted fewer.among;
+        valid = rw c.self.view_is at c.self.invariant.0;
+        is_node = fewer.is_node;
+        pays =
+            paid-fewer V e.m node.set free kept node.left c.args.least c.saturating_sub.result (slice_index needs.worths) (first g at).is_node fewer.is_node fewer.among
+            (λ committee whole reaches. omega (arith, c.saturating_sub.ensures, pays g at committee whole reaches));
       },
       refl,
     )
