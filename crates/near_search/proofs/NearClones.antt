@@ -4,7 +4,6 @@ use Rattle.std.specs.List.{AllByRecursion}
 use Rattle.ballot_base.specs.Lists.{IsIncreasing}
 use Rattle.ballot_base.specs.CandSet.{has_member, without_member}
 use Rattle.ballot_base.specs.Ballots.{Election, Row}
-use Rattle.near_search.specs.Steps.Near.{AreBallots}
 use Rattle.ballot_base.specs.Clones.{are_clones, clones_among}
 use Rattle.ballot_base.proofs.CloneLemmas.{clones-same}
 use Rattle.ballot_base.proofs.Increasing.{IsIncreasing-with_member}
@@ -42,6 +41,6 @@ module _ (m : ℕ) (committee : List ℕ) (c d : ℕ) (up : IsIncreasing 1 m com
       all (row ∷ rows) up same = (distance-exchanged row.0 up.0 same.0, all rows up.1 same.1)
 
 -- the classes of clones are alike
-pub alike : (e : Election) → AreBallots e.m e.rows → AreAlike (closeness e.m e.rows) e.m (clones_among e.m e.rows)
+pub alike : (e : Election) → AllByRecursion (λ (row : Row). IsIncreasing 1 e.m row.0) e.rows → AreAlike (closeness e.m e.rows) e.m (clones_among e.m e.rows)
 alike e ballots committee c d up low high class here out =
     closeness-exchanged e.m committee c d up here out low high e.rows ballots (class-are e.m e.rows c (clones_among e.m e.rows c) refl d class)

@@ -1,5 +1,5 @@
 -- What ballots need, weighted, and the weights of the candidates who can join.
-use Rattle.std.proofs.Common.{◌≡◌, ℕ, ◌+◌, ◌-◌, ◌*◌, ◌<◌, ◌≤◌, ◌∙◌, ◌&&◌, ◌||◌, ◌==◌, zero, suc, subst, Bool, true, false, cond, List, [], ◌∷◌, ◌++◌, refl, ap, arith, length, sum_by, slice_get, slice_index, Some, ◌^◌}
+use Rattle.std.proofs.Common.{◌≡◌, ℕ, ◌+◌, ◌-◌, ◌*◌, ◌<◌, ◌≤◌, ◌∙◌, ◌&&◌, ◌||◌, ◌==◌, zero, suc, subst, Bool, true, false, cond, List, [], ◌∷◌, ◌++◌, refl, sym, ap, arith, length, sum_by, slice_get, slice_index, Some, ◌^◌}
 use Rattle.std.specs.List.{AllByRecursion}
 use Rattle.std.proofs.Math.Nat.{mul-le-mul_left}
 use Rattle.std.proofs.lemmas.List.Sums.{sum_by-cons}
@@ -10,15 +10,11 @@ use Rattle.ballot_base.specs.Ballots.{Row, Election, IsElection, hits, voter_cou
 use Rattle.ballot_base.proofs.Increasing.{has_member-filter, has_member_head}
 use Rattle.tie_walk.specs.Sequences.{supporters}
 use Rattle.tie_walk.specs.Values.{closeness, greatest_distance}
-use Rattle.std.specs.Prelude.{MatchOption, Option}
-use Rattle.ballot_base.specs.Worths.{AreTooLow, AreWanted}
-use Rattle.ballot_base.specs.Limits.{most_candidates}
-use Rattle.row_bounds.specs.Completions.{IsNode, IsCompletion, IsOutOfReach}
-use Rattle.row_bounds.specs.Steps.Narrowed.{IsNarrowed}
-use Rattle.row_bounds.proofs.NarrowedLemmas.{narrowed-members}
+use Rattle.row_bounds.specs.Completions.{IsNode, IsCompletion}
+use Rattle.row_bounds.specs.declared.multipliers.Constraint.{Constraint}
+use Rattle.row_bounds.specs.declared.node.Node.{Node}
 use Rattle.near_search.specs.Needs.{hits_needed, weighted_needs, weighted_support}
-use Rattle.near_search.specs.Steps.Near.{AreWeighted}
-use Rattle.row_bounds.proofs.CompletionLemmas.{added, added-free, added-increasing, added-size, completion-members, hits-same}
+use Rattle.row_bounds.proofs.CompletionLemmas.{added, added-free, added-increasing, added-size, completion-members, completion-outside, hits-same, or-more}
 use Rattle.row_bounds.proofs.HitLemmas.{hits-append, hits-turned}
 use Rattle.near_search.proofs.NeedLemmas.{needs-met, value-near}
 use Rattle.ballot_base.proofs.Sums.{sum-member, sum-part, sum-threshold}
@@ -152,14 +148,24 @@ module _ (weight : Row → ℕ) (m k most : ℕ) (rows : List Row) (set free : L
 
 -- ---- what weighted needs say of a set
 
+-- the total weight of what ballots need, and supports of the free candidates: candidates that give each ballot the hits
+-- that it needs have at least the total as their supports together
+abbrev pub AreWeighted : Election → ℕ → ℕ → List ℕ → List ℕ → ℕ → List ℕ → Type 0
+AreWeighted e k most set free total supports = (more : List ℕ) → IsIncreasing 1 e.m more
+    → ((n : ℕ) → has_member more n ≡ true → has_member free n ≡ true)
+    → AllByRecursion (λ (row : Row). hits_needed (length row.0) k most ≤ hits row.0 set + hits row.0 more) e.rows
+    → total ≤ sum_by (slice_index supports) more
+
+-- the needs of the first rows, as many as turns
+pub record AreNeeds (e : Election) (most : ℕ) (node : Node) (turns : ℕ) (needs : Constraint) : Type 0 where
+  pub unpaid : needs.paid ≡ 0
+  pub weighted : AreWeighted e (length node.set + node.left) most node.set node.free needs.due needs.worths
+  pub small_total : needs.due ≤ turns * 2 ^ 70
+  pub small : (n : ℕ) → slice_index needs.worths n ≤ turns * 2 ^ 62
+
 -- nothing is needed
 pub weighted-none : (e : Election) (k most : ℕ) (set free supports : List ℕ) → AreWeighted e k most set free 0 supports
 weighted-none e k most set free supports more up within met = omega arith
-
--- fewer are free
-pub weighted-fewer : (e : Election) (k most : ℕ) (set free rest : List ℕ) (total : ℕ) (supports : List ℕ) → AreWeighted e k most set free total supports
-    → ((n : ℕ) → has_member rest n ≡ true → has_member free n ≡ true) → AreWeighted e k most set rest total supports
-weighted-fewer e k most set free rest total supports are among more up within met = are more up (λ n is. among n (within n is)) met
 
 -- a row that was found has what each row has
 row-met : (P : Row → Type 0) (rows : List Row) (i : ℕ) (row : Row) → AllByRecursion P rows → slice_get rows i ≡ Some row → P row
@@ -221,12 +227,17 @@ weighted-paid e most set free left total supports ballots is_node are committee 
     are (added e.m set free left committee is_node whole) (added-increasing e.m set free left committee is_node whole) (added-free e.m set free left committee is_node whole)
     (needs-split (λ row. 0) e.m (length set + left) most e.rows set free left committee ballots is_node whole refl (value-near e.m e.rows most committee ballots whole.candidates reaches))
 
--- who can still join by the weighted needs
-pub needs-narrow : (e : Election) (most least : ℕ) (set free : List ℕ) (left total : ℕ) (supports : List ℕ) → e.m ≤ most_candidates → AllByRecursion (λ (row : Row). IsIncreasing 1 e.m row.0) e.rows
-    → e.m - most ≡ least → IsNode e.m set free → AreWeighted e (length set + left) most set free total supports → (answer : Option (List ℕ))
-    → MatchOption answer (AreTooLow (slice_index supports) free left total) (AreWanted (slice_index supports) free left total)
-    → MatchOption answer (IsOutOfReach (closeness e.m e.rows) e.m set free left least) (IsNarrowed (closeness e.m e.rows) e.m set free left least)
-needs-narrow e most least set free left total supports size ballots is is_node weighted answer given =
-    narrowed-members (closeness e.m e.rows) e.m set free left least (slice_index supports) total size is_node
-    (λ committee whole reaches. weighted-paid e most set free left total supports ballots is_node weighted committee whole (omega (arith, is, reaches)))
-    answer given
+-- those who complete a set are the same, however many others are free
+pub paid-fewer : (value : List ℕ → ℕ) (m : ℕ) (set free rest : List ℕ) (left least due : ℕ) (worth : ℕ → ℕ) → IsNode m set free → IsNode m set rest
+    → ((n : ℕ) → has_member rest n ≡ true → has_member free n ≡ true)
+    → ((committee : List ℕ) → IsCompletion m set free left committee → least ≤ value committee → due ≤ sum_by worth (common_members free committee))
+    → (committee : List ℕ) → IsCompletion m set rest left committee → least ≤ value committee → due ≤ sum_by worth (common_members rest committee)
+paid-fewer value m set free rest left least due worth is_node fewer among pays committee whole reaches =
+    let more : IsCompletion m set free left committee = record {
+      candidates = whole.candidates;
+      whole = whole.whole;
+      within = λ n is. or-more (has_member set n) (has_member rest n) (has_member free n) (among n) (whole.within n is);
+      size = whole.size;
+    } in
+    let same : common_members free committee ≡ common_members rest committee = sym (completion-outside m set free left committee is_node more) ∙ completion-outside m set rest left committee fewer whole in
+    rw same at (pays committee more reaches)

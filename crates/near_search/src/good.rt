@@ -12,16 +12,6 @@ use std::alloc::Allocator;
 /// The maximum number of exchanges. Any number is right.
 const MOST_EXCHANGES: u8 = 64;
 
-/// How far the ballots are from a committee.
-#[derive(Clone, Copy)]
-struct Farthest {
-    /// A ballot with the maximum distance.
-    ballot: CandSet,
-    distance: u8,
-    /// How many different ballots have this distance.
-    count: u64,
-}
-
 /// A committee of `k` that is near the ballots.
 pub(crate) fn near_committee<A: Allocator + Copy>(profile: &Profile<A>, k: u8) -> CandSet
     requires { k ≤ most_candidates }
@@ -36,71 +26,52 @@ pub(crate) fn near_committee<A: Allocator + Copy>(profile: &Profile<A>, k: u8) -
     committee
 }
 
-/// A nearer committee, with a candidate in the place of a member. Returns `None` if none is found.
+/// A nearer committee, with a candidate on a farthest ballot in the place of a member. Returns `None` if none is found.
 fn exchanged<A: Allocator + Copy>(profile: &Profile<A>, committee: CandSet) -> Option<CandSet> {
-    let farthest = Farthest::of(profile, committee);
-    for member in committee.minus(farthest.ballot).members() {
-        let nearer = farthest.filled(profile, committee.without(member));
-        if nearer.is_some() {
-            return nearer;
+    let (ballot, distance, count) = farthest(profile, committee);
+    for member in committee.minus(ballot).members() {
+        let others = committee.without(member);
+        for candidate in ballot.minus(others).members() {
+            let nearer = others.with(candidate);
+            if is_undercut(profile, nearer, distance, count) {
+                return Some(nearer);
+            }
         }
     }
     None
 }
 
-impl Farthest {
-    fn of<A: Allocator + Copy>(profile: &Profile<A>, committee: CandSet) -> Farthest {
-        let mut farthest = Farthest {
-            ballot: committee,
-            distance: 0,
-            count: 0,
-        };
-        for (ballot, _voters) in profile.ballots() {
-            let distance = ballot.distance(committee);
-            if distance > farthest.distance {
-                farthest = Farthest {
-                    ballot,
-                    distance,
-                    count: 1,
-                };
-            } else if distance == farthest.distance {
-                farthest.count = farthest.count.saturating_add(1);
-            }
+/// A farthest ballot from a committee, its distance, and how many different ballots have this distance.
+fn farthest<A: Allocator + Copy>(profile: &Profile<A>, set: CandSet) -> (CandSet, u8, u64) {
+    let mut farthest = (set, 0, 0u64);
+    for (ballot, _voters) in profile.ballots() {
+        let distance = ballot.distance(set);
+        if distance > farthest.1 {
+            farthest = (ballot, distance, 0);
         }
-        farthest
+        if distance == farthest.1 {
+            farthest.2 = farthest.2.saturating_add(1);
+        }
     }
+    farthest
+}
 
-    /// The other members of a committee, with a candidate on the farthest ballot that makes the committee nearer.
-    /// Returns `None` if no candidate does.
-    fn filled<A: Allocator + Copy>(
-        &self,
-        profile: &Profile<A>,
-        others: CandSet,
-    ) -> Option<CandSet> {
-        let open = self.ballot.minus(others);
-        for candidate in 1..profile.m() + 1 {
-            if open.has(candidate) {
-                let committee = others.with(candidate);
-                if self.is_undercut(profile, committee) {
-                    return Some(committee);
-                }
-            }
+/// Whether fewer than `count` ballots have this distance from a committee, and no ballot is farther.
+fn is_undercut<A: Allocator + Copy>(
+    profile: &Profile<A>,
+    committee: CandSet,
+    distance: u8,
+    count: u64,
+) -> bool {
+    let mut spare = count;
+    for (ballot, _voters) in profile.ballots() {
+        let apart = ballot.distance(committee);
+        if apart == distance {
+            spare = spare.saturating_sub(1);
         }
-        None
-    }
-
-    /// Whether fewer ballots are as far from this committee, and no ballot is farther.
-    fn is_undercut<A: Allocator + Copy>(&self, profile: &Profile<A>, committee: CandSet) -> bool {
-        let mut spare = self.count;
-        for (ballot, _voters) in profile.ballots() {
-            let distance = ballot.distance(committee);
-            if distance == self.distance {
-                spare = spare.saturating_sub(1);
-            }
-            if distance > self.distance || spare == 0 {
-                return false;
-            }
+        if apart > distance || spare == 0 {
+            return false;
         }
-        true
     }
+    true
 }

@@ -5,27 +5,25 @@ ghost use Rattle.tie_walk.specs.Ceilings.{closeness_upto};
 ghost use Rattle.tie_walk.specs.Values.{closeness};
 
 use crate::good::near_committee;
-use crate::near::NearSearch;
 use crate::weights::{FIRST_WEIGHT, Shares};
 use ballot_base::{CandSet, Clones, Profile};
-use std::alloc::{AllocError, Allocator, Global};
-use std::marker::Model;
 use row_bounds::multipliers::Multipliers;
 use row_bounds::{Moves, Node};
-use tie_search::{Searchable, Tied, descent};
+use std::alloc::{AllocError, Allocator, Global};
+use std::marker::Model;
+use tie_search::{Searchable, Tied, WithClones, descent};
 use tie_walk::{MinimaxTally, Tally};
 
 /// A search among the committees of a profile under minimax approval voting. A committee's value is the number of
 /// candidates less its maximum distance to a ballot. Contracts see the election.
 #[derive(Drop)]
 pub struct MinimaxSearch<'a, A: Allocator + Copy = Global> {
-    profile: &'a Profile<A>,
-    m: u8,
+    pub(crate) profile: &'a Profile<A>,
     clones: Clones,
-    shares: Shares,
-    weights: Option<Multipliers<A>>,
+    pub(crate) shares: Shares,
+    pub(crate) weights: Option<Multipliers<A>>,
     // Where it pays to move weights, over all questions so far.
-    moves: Moves,
+    pub(crate) moves: Moves,
 }
 
 impl<'a, A: Allocator + Copy> Model for MinimaxSearch<'a, A> {
@@ -37,8 +35,7 @@ impl<'a, A: Allocator + Copy> Model for MinimaxSearch<'a, A> {
 
     ghost view = { λ t. t.profile.now };
 
-    ghost invariant = { λ t. IsElection t.profile.now × (t.m ≡ t.profile.now.m)
-        × AreClones t.profile.now.m t.profile.now.rows t.clones };
+    ghost invariant = { λ t. IsElection t.profile.now × AreClones t.profile.now.m t.profile.now.rows t.clones };
 }
 
 /// The work of a round that moves weights, in visits to a set. A round goes over all rows twice, and a visit often ends
@@ -53,7 +50,6 @@ impl<'a, A: Allocator + Copy + Drop> MinimaxSearch<'a, A> {
     {
         Ok(MinimaxSearch {
             profile,
-            m: profile.m(),
             clones: Clones::of(profile),
             shares: Shares::equal(),
             weights: Multipliers::of(alloc, profile.rows(), FIRST_WEIGHT)?,
@@ -70,7 +66,7 @@ impl<'a, A: Allocator + Copy> Tally for MinimaxSearch<'a, A> {
     ghost bound_of = { λ tally c set left. closeness_upto tally.m tally.rows c set };
 
     fn m(&self) -> u8 {
-        self.m
+        self.profile.m()
     }
 
     fn value(&self, set: CandSet) -> u128 {
@@ -82,30 +78,22 @@ impl<'a, A: Allocator + Copy> Tally for MinimaxSearch<'a, A> {
     }
 
     fn good_committee(&self, k: u8) -> Option<CandSet> {
-        let committee = CandSet::all(self.m).common(near_committee(self.profile, k));
-        if committee.len() != k {
-            return None;
-        }
-        Some(committee)
+        let committee = CandSet::all(self.m()).common(near_committee(self.profile, k));
+        (committee.len() == k).then_some(committee)
     }
 }
 
-impl<'a, A: Allocator + Copy> Searchable for MinimaxSearch<'a, A> {
+impl<'a, A: Allocator + Copy> WithClones for MinimaxSearch<'a, A> {
     ghost class_of = { λ tally c. clones_among tally.m tally.rows c };
 
     fn clones(&self) -> &Clones {
         &self.clones
     }
+}
 
+impl<'a, A: Allocator + Copy> Searchable for MinimaxSearch<'a, A> {
     fn find(&self, node: &Node, least: u128) -> Option<CandSet> {
-        let search = NearSearch {
-            profile: self.profile,
-            clones: &self.clones,
-            shares: &self.shares,
-            weights: self.weights.as_ref(),
-            moves: &self.moves,
-        };
-        descent::find(&search, *node, least)
+        descent::find(self, *node, least)
     }
 
     // Thousands of committees tie under this rule. Listing them took up to four times the instructions until the first

@@ -8,19 +8,17 @@
 //! If several seats are left and several candidates are to be tried, all needs are also added up, each with a weight
 //! (module `weights`).
 ghost use Rattle.std.specs.Prelude.{◌≡◌, ℕ, ◌-◌, ◌≤◌, length, slice_index, MatchOption, ⊤};
-ghost use Rattle.ballot_base.specs.Clones.{AreClones, clones_among};
 ghost use Rattle.ballot_base.specs.Limits.{most_candidates};
-ghost use Rattle.ballot_base.specs.Worths.{AreTooLow, AreWanted};
 ghost use Rattle.row_bounds.specs.Completions.{IsNode};
-ghost use Rattle.tie_walk.specs.Values.{closeness};
-ghost use Rattle.near_search.specs.Steps.Near.{AreBallots, AreBallots-prop, AreBranches, IsHopeless, IsNearPlan};
+ghost use Rattle.near_search.specs.Steps.Near.{Branches, IsNearPlan};
 
+use crate::minimax::MinimaxSearch;
 use crate::needs::still_needed;
-use crate::weights::{NeedSearch, Shares, Weighing};
-use ballot_base::{CandSet, Clones, Profile, Worths};
+use crate::weights::{NeedSearch, Weighing};
+use ballot_base::CandSet;
+use row_bounds::Node;
+use row_bounds::multipliers::RowBound;
 use std::alloc::Allocator;
-use row_bounds::multipliers::Multipliers;
-use row_bounds::{Moves, Node};
 use tie_search::descent::{Narrowing, Plan};
 use tie_walk::{MinimaxTally, Tally};
 
@@ -33,73 +31,45 @@ const FEWEST_SEATS: u8 = 4;
 /// right.
 const FEWEST_CHOICES: u8 = 3;
 
-/// What all steps of a search share: the ballots, their clones, the shares and the moved weights for the weights of
-/// ballots, and where it pays to move these.
-#[derive(Drop)]
-pub(crate) struct NearSearch<'a, A: Allocator + Copy> {
-    pub(crate) profile: &'a Profile<A>,
-    pub(crate) clones: &'a Clones,
-    pub(crate) shares: &'a Shares,
-    pub(crate) weights: Option<&'a Multipliers<A>>,
-    pub(crate) moves: &'a Moves,
-    ghost size: { profile.now.m ≤ most_candidates },
-    ghost ballots: { AreBallots profile.now.m profile.now.rows } by { AreBallots-prop profile.now.m profile.now.rows },
-    ghost classes: { AreClones profile.now.m profile.now.rows clones.now },
-}
-
-impl<A: Allocator + Copy> Narrowing for NearSearch<'_, A> {
-    ghost candidates = { λ search. search.profile.now.m };
-
-    ghost value_of = { λ search set. closeness search.profile.now.m search.profile.now.rows set };
-
-    ghost class_of = { λ search c. clones_among search.profile.now.m search.profile.now.rows c };
-
+impl<A: Allocator + Copy> Narrowing for MinimaxSearch<'_, A> {
     // A whole committee is valued when it is reached.
-    ghost is_valued = { λ search set value. ⊤ };
+    ghost is_valued = { λ election set value. ⊤ };
 
-    ghost is_plan = { λ search set left plan. IsNearPlan search.profile.now set left plan };
-
-    fn clones(&self) -> &Clones {
-        self.clones
-    }
+    ghost is_plan = { λ election set left plan. IsNearPlan election set left plan };
 
     fn whole_value(&self, node: &Node) -> u128 {
         MinimaxTally::new(self.profile).value(node.set)
     }
 
     fn plan(&self, node: &Node, least: u128) -> Option<Plan> {
-        let m = self.profile.m();
+        let m = self.m();
         if least > u128::from(m) {
             return None;
         }
         let most = m - least as u8;
-        let (choices, eligible) = self.choices(node, most)?;
-        let narrowed = Node {
-            free: eligible,
-            ..*node
-        };
+        let (choices, free) = self.choices(node, most)?;
         let search = NeedSearch {
             profile: self.profile,
             weighing: self.weighing(node.left, choices),
             most,
         };
-        let free = search.moved(&narrowed, self.moves)?;
+        let free = search.moved(&Node { free, ..*node }, &self.moves)?;
         let here = Node { free, ..*node };
-        let needs = search.needs(&here);
+        let needs = search.constraint(&here);
         Some(Plan {
-            eligible: members_for(&needs.worths, &here, needs.due)?,
+            eligible: needs.narrowed(&here)?,
             choices,
             worths: needs.worths,
-            due: needs.due,
+            due: needs.due.saturating_sub(needs.paid),
             least,
         })
     }
 
     fn narrowed(&self, plan: &Plan, node: &Node, least: u128) -> Option<CandSet> {
-        if least > u128::from(self.profile.m()) {
+        if least > u128::from(self.m()) {
             return None;
         }
-        members_for(&plan.worths, node, plan.due)
+        plan.worths.members_for(node.free, node.left, plan.due)
     }
 
     fn child(&self, _plan: &Plan, node: &Node, next: u8) -> Node {
@@ -112,23 +82,23 @@ impl<A: Allocator + Copy> Narrowing for NearSearch<'_, A> {
     }
 }
 
-impl<'a, A: Allocator + Copy> NearSearch<'a, A> {
+impl<A: Allocator + Copy> MinimaxSearch<'_, A> {
     /// Two sets: branching candidates, at least one of which must join so that no ballot is farther than `most`; and
     /// the candidates that are still eligible. Returns `None` if some ballot needs more hits than it can have.
     fn choices(&self, node: &Node, most: u8) -> Option<(CandSet, CandSet)>
-        requires is_node { IsNode self.now.profile.now.m node.now.set node.now.free }
+        requires is_node { IsNode self.now.m node.now.set node.now.free }
         requires some { 1 ≤ node.now.left }
-        ensures { MatchOption result (IsHopeless self.now.profile.now most node.now.set node.now.free node.now.left)
-            (λ both. AreBranches self.now.profile.now most node.now.set node.now.free node.now.left both.0 both.1) }
+        ensures { Branches self.now most node.now result }
     {
         if node.free.len() < node.left {
             return None;
         }
         let mut choices = node.free;
         let mut rest = node.free;
-        let mut tightest = (u8::MAX, 0);
+        let mut fewest = u8::MAX;
+        let mut most_needed = 0;
         for (ballot, _voters) in self.profile.ballots() {
-            let needed = still_needed(ballot, node.set, node.left, most);
+            let needed = still_needed(ballot, node, most);
             if needed == 0 {
                 continue;
             }
@@ -140,44 +110,25 @@ impl<'a, A: Allocator + Copy> NearSearch<'a, A> {
                 rest = open;
             }
             let spare = open.len() - needed;
-            if is_tighter((spare, needed), tightest) {
+            // Any ballot that needs a hit is right. A tight one leaves few candidates to try.
+            if spare < fewest || spare == fewest && needed > most_needed {
                 choices = open;
-                tightest = (spare, needed);
+                fewest = spare;
+                most_needed = needed;
             }
         }
         Some((choices, rest))
     }
 
     /// Enters a node with `left` seats left, and chooses weights. The `choices` are to be tried.
-    fn weighing(&self, left: u8, choices: CandSet) -> Weighing<'a, A> {
+    fn weighing(&self, left: u8, choices: CandSet) -> Weighing<'_, A> {
         self.moves.enter(left);
         if left < FEWEST_SEATS || choices.len() < FEWEST_CHOICES {
             return Weighing::Nothing;
         }
-        match self.weights {
+        match &self.weights {
             Some(weights) if self.moves.are_due(left) => Weighing::Moved(weights),
-            _ => Weighing::ByShare(self.shares),
+            _ => Weighing::ByShare(&self.shares),
         }
     }
-}
-
-/// The free candidates of a node that can join, if all that join must be worth `due` together. Returns `None` only if
-/// no free candidates are worth that.
-fn members_for(worths: &Worths, node: &Node, due: u128) -> Option<CandSet>
-    ensures { MatchOption result (AreTooLow (slice_index worths.now) node.now.free node.now.left due)
-        (AreWanted (slice_index worths.now) node.now.free node.now.left due) }
-{
-    if due == 0 {
-        return Some(node.free);
-    }
-    worths.members_for(node.free, node.left, due)
-}
-
-/// Whether a ballot can spare fewer free candidates than the tightest before, or equally few and needs more hits. Both
-/// are given as (candidates to spare, hits needed). Any ballot that needs a hit is right; a tight one leaves few
-/// candidates to try.
-fn is_tighter(ballot: (u8, u8), tightest: (u8, u8)) -> bool {
-    let (spare, needed) = ballot;
-    let (fewest, most_needed) = tightest;
-    spare < fewest || spare == fewest && needed > most_needed
 }

@@ -3,21 +3,18 @@
 //! All needs are added up, each with a weight. A set is given up if the sum exceeds what the best free candidates can
 //! give. A candidate leaves if every completion with it falls short (`laws::weighted_needs`; Glover, Surrogate
 //! constraints, 1968). Any weights are right. A ballot weighs by the share that it needs of its free candidates. If
-//! that pays, weights are moved instead (`tie_search::multipliers`). With weights by the share, 64 candidates and 20
+//! that pays, weights are moved instead (`row_bounds::multipliers`). With weights by the share, 64 candidates and 20
 //! seats did not end within 12 s if voters and candidates lie on a line. With moved ones they take 0.01 s.
-ghost use Rattle.std.specs.Prelude.{◌≡◌, ℕ, ◌+◌, ◌-◌, ◌^◌, ◌≤◌, false, length, slice_index};
+ghost use Rattle.std.specs.Prelude.{◌≡◌, ℕ, ◌-◌, ◌^◌, ◌≤◌, slice_index};
 ghost use Rattle.ballot_base.specs.Limits.{most_candidates};
-ghost use Rattle.ballot_base.specs.Lists.{IsIncreasing};
 ghost use Rattle.row_bounds.specs.Completions.{IsNode};
-ghost use Rattle.row_bounds.specs.Steps.Narrowed.{Narrows};
-ghost use Rattle.tie_walk.specs.Values.{closeness};
-ghost use Rattle.near_search.specs.Steps.Near.{AreBallots, AreBallots-prop, AreWeighted, share_parts};
+ghost use Rattle.near_search.specs.Steps.Near.{NarrowsNear, share_parts};
 
 use crate::needs::still_needed;
-use ballot_base::{CandSet, MOST_CANDIDATES, PLACES, Profile, Worths};
-use std::alloc::Allocator;
+use ballot_base::{CandSet, PLACES, Profile, Worths};
 use row_bounds::multipliers::{Constraint, Effort, Gap, Multipliers, RowBound, WHOLE, narrowed};
 use row_bounds::{Moves, Node};
+use std::alloc::Allocator;
 
 /// Each moved weight begins with this number: enough that rounding matters little.
 pub(crate) const FIRST_WEIGHT: u64 = 1 << 20;
@@ -36,8 +33,8 @@ const NODE: Effort = Effort {
     goes_back: false,
 };
 
-/// A step aims at weighted needs that exceed the supports by the total divided by this. With 8, voters and candidates in
-/// a square took thirty times as long, and with 128, 60 random voters twenty times as long. Any number is right.
+/// A step aims at weighted needs that exceed the supports by the total divided by this. With 8, voters and candidates
+/// in a square took thirty times as long, and with 128, 60 random voters twenty times as long. Any number is right.
 const MARGIN: u128 = 32;
 
 /// Gaps are compared in parts of the total.
@@ -93,7 +90,6 @@ pub(crate) struct NeedSearch<'a, A: Allocator + Copy> {
     pub(crate) weighing: Weighing<'a, A>,
     pub(crate) most: u8,
     ghost size: { profile.now.m ≤ most_candidates },
-    ghost ballots: { AreBallots profile.now.m profile.now.rows } by { AreBallots-prop profile.now.m profile.now.rows },
 }
 
 impl<A: Allocator + Copy> NeedSearch<'_, A> {
@@ -101,8 +97,7 @@ impl<A: Allocator + Copy> NeedSearch<'_, A> {
     /// completion of the set is near each ballot.
     pub(crate) fn moved(&self, node: &Node, moves: &Moves) -> Option<CandSet>
         requires is_node { IsNode self.now.profile.now.m node.now.set node.now.free }
-        ensures { Narrows (closeness self.now.profile.now.m self.now.profile.now.rows) self.now.profile.now.m node.now
-            (self.now.profile.now.m - self.now.most) result }
+        ensures { NarrowsNear self.now.profile.now self.now.most node.now result }
     {
         let Weighing::Moved(weights) = &self.weighing else {
             moves.work(0);
@@ -111,46 +106,6 @@ impl<A: Allocator + Copy> NeedSearch<'_, A> {
         let moved = narrowed(self, *weights, node, NODE);
         moves.note(node, &moved);
         moved.free
-    }
-
-    /// What all ballots still need, and what each free candidate can give: the total weight of the ballots that approve
-    /// it.
-    pub(crate) fn needs(&self, node: &Node) -> Constraint
-        requires set { IsIncreasing 1 self.now.profile.now.m node.now.set }
-        ensures weighted { AreWeighted self.now.profile.now (length node.now.set + node.now.left) self.now.most
-            node.now.set node.now.free result.due result.worths }
-    {
-        let mut due = 0;
-        let mut worths = Worths::none();
-        if self.is_idle(node) {
-            return Constraint {
-                paid: 0,
-                due,
-                worths,
-            };
-        }
-        for i in 0..self.profile.rows() {
-            let (ballot, _voters) = self.profile.row(i);
-            let needed = still_needed(ballot, node.set, node.left, self.most);
-            if needed > 0 {
-                let approved = ballot.common(node.free);
-                let weight = u128::from(self.weight(i, needed, approved));
-                due += weight * u128::from(needed);
-                worths.add(approved, weight);
-            }
-        }
-        Constraint {
-            paid: 0,
-            due,
-            worths,
-        }
-    }
-
-    /// Whether nothing is weighed at a node: it does not pay, or no committee is so large.
-    fn is_idle(&self, node: &Node) -> bool
-        ensures { result ≡ false → node.now.left ≤ most_candidates }
-    {
-        matches!(&self.weighing, Weighing::Nothing) || node.left > MOST_CANDIDATES
     }
 
     /// The weight of row i, whose ballot needs some of its free candidates.
@@ -175,8 +130,27 @@ impl<A: Allocator + Copy> RowBound for NeedSearch<'_, A> {
 
     ghost least = { λ search. search.profile.now.m - search.most };
 
+    // What all ballots still need is due. A free candidate is worth the total weight of the ballots that approve it.
     fn constraint(&self, node: &Node) -> Constraint {
-        self.needs(node)
+        let mut needs = Constraint {
+            paid: 0,
+            due: 0,
+            worths: Worths::none(),
+        };
+        if matches!(&self.weighing, Weighing::Nothing) {
+            return needs;
+        }
+        for i in 0..self.profile.rows() {
+            let (ballot, _voters) = self.profile.row(i);
+            let needed = still_needed(ballot, node, self.most);
+            if needed > 0 {
+                let approved = ballot.common(node.free);
+                let weight = u128::from(self.weight(i, needed, approved));
+                needs.due += weight * u128::from(needed);
+                needs.worths.add(approved, weight);
+            }
+        }
+        needs
     }
 
     fn gap(&self, constraint: &Constraint, best: CandSet) -> Gap {
@@ -192,12 +166,9 @@ impl<A: Allocator + Copy> RowBound for NeedSearch<'_, A> {
             return 0;
         };
         let mut square: u128 = 0;
-        if self.is_idle(node) {
-            return square;
-        }
         for i in 0..self.profile.rows() {
             let (ballot, _voters) = self.profile.row(i);
-            let needed = still_needed(ballot, node.set, node.left, self.most);
+            let needed = still_needed(ballot, node, self.most);
             if needed > 0 {
                 let hits = ballot.common(best).len();
                 let lacking = i64::from(needed) - i64::from(hits);

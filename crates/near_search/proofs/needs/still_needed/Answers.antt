@@ -1,19 +1,20 @@
-use Rattle.std.proofs.Common.{ap, arith}
+use Rattle.std.proofs.Common.{◌≡◌, arith}
 use Rattle.ballot_base.specs.Limits.{most_candidates}
-use Rattle.tie_walk.proofs.Distances.{distance-most}
-use Rattle.near_search.specs.Needs.{hits_needed}
+use Rattle.tie_walk.specs.Values.{distance}
 use Rattle.near_search.proofs.NeedLemmas.{distance-hits}
 use Rattle.near_search.proofs.needs.still_needed.Goals as goal
 
-pub hits_needed-requires : goal.hits_needed-requires
-hits_needed-requires c =
-    omega (arith, c.distance.ensures, distance-most most_candidates c.args.ballot c.args.set c.requires.ballot c.requires.set, c.requires.few)
-
 pub returns : goal.returns
 returns c =
+    let ballot = c.args.ballot in
+    let set = c.args.node.now.set in
+    let apart : c.distance.result ≡ distance ballot set = c.distance.ensures in
     omega (
       arith,
-      c.hits_needed.ensures,
-      ap (λ n. hits_needed n c.args.left c.args.most) c.distance.ensures,
-      distance-hits most_candidates c.args.ballot c.args.set c.requires.ballot c.requires.set,
+      c.saturating_sub-excess.ensures,
+      c.from.ensures,
+      c.from-2.ensures,
+      c.from-3.ensures,
+      apart,
+      distance-hits most_candidates ballot set c.requires.ballot c.requires.set,
     )

@@ -3,17 +3,17 @@ use Rattle.ballot_base.specs.CandSet.{with_member, without_member}
 use Rattle.tie_walk.specs.Values.{closeness}
 use Rattle.row_bounds.proofs.CompletionLemmas.{member-high, member-low, node-with}
 use Rattle.row_bounds.proofs.NarrowedLemmas.{narrowed-none}
-use Rattle.near_search.proofs.near.NearSearchNarrowing.child.Goals as goal
+use Rattle.near_search.proofs.near.MinimaxSearchNarrowing.child.Goals as goal
 
 pub with-requires-clause-low : goal.with-requires-clause-low
-with-requires-clause-low g c = member-low 1 c.args.self.now.profile.now.m c.args.node.now.free c.args.next c.requires.is_node.free_within c.requires.next
+with-requires-clause-low g c = member-low 1 c.args.self.now.m c.args.node.now.free c.args.next c.requires.is_node.free_within c.requires.next
 
 pub with-requires-clause-high : goal.with-requires-clause-high
-with-requires-clause-high g c = omega (arith, c.args.self.now.size, member-high 1 c.args.self.now.profile.now.m c.args.node.now.free c.args.next c.requires.is_node.free_within c.requires.next)
+with-requires-clause-high g c = omega (arith, c.requires.plan.valid.most, member-high 1 c.args.self.now.m c.args.node.now.free c.args.next c.requires.is_node.free_within c.requires.next)
 
 pub returns-clause-child : goal.returns-clause-child
 returns-clause-child g c =
-    let e = c.args.self.now.profile.now in
+    let e = c.args.self.now in
     let node = c.args.node.now in
     record {
       set = c.with.ensures;

@@ -5,10 +5,10 @@ use Rattle.tie_walk.specs.Values.{closeness}
 use Rattle.tie_search.specs.Alike.{AreAlike}
 use Rattle.tie_search.proofs.AlikeLemmas.{clones-classes, clones-rise}
 use Rattle.near_search.proofs.NearClones.{alike}
-use Rattle.near_search.proofs.minimax.MinimaxSearchSearchable.clones.Goals as goal
+use Rattle.near_search.proofs.minimax.MinimaxSearchWithClones.clones.Goals as goal
 
 pub returns-clause-table : goal.returns-clause-table
-returns-clause-table g c = subst (λ (e : Election). AreClones e.m e.rows c.self.inside.clones) c.self.view_is c.self.invariant.2
+returns-clause-table g c = subst (λ (e : Election). AreClones e.m e.rows c.self.inside.clones) c.self.view_is c.self.invariant.1
 
 pub returns-clause-rise : goal.returns-clause-rise
 returns-clause-rise g c n low high = clones-rise c.args.self.now.m c.args.self.now.rows n
