@@ -223,26 +223,14 @@ impl<'a, A: Allocator + Copy> ThieleSearch<'a, A> {
 impl<'a, A: Allocator + Copy> Narrowing for ThieleSearch<'a, A> {
     ghost use Rattle.std.specs.Prelude.{◌≡◌, ℕ, true, slice_index};
     ghost use Rattle.ballot_base.specs.CandSet.{has_member};
-    ghost use Rattle.ballot_base.specs.Clones.{clones_among};
     ghost use Rattle.ballot_base.specs.Increments.{increments};
     ghost use Rattle.tie_walk.specs.Sequences.{gain};
-    ghost use Rattle.tie_walk.specs.Values.{tally_value};
     ghost use Rattle.thiele_search.specs.Steps.Aided.{IsValued};
-
-    ghost candidates = { λ tally. tally.election.m };
-
-    ghost value_of = { λ tally set. tally_value tally set };
-
-    ghost class_of = { λ tally c. clones_among tally.election.m tally.election.rows c };
 
     ghost is_valued = { λ tally set value. IsValued tally set value };
 
     ghost is_plan = { λ tally set left plan. (n : ℕ) → has_member plan.eligible n ≡ true
         → slice_index plan.worths n ≡ gain (increments tally.rule tally.k) tally.election.rows set n };
-
-    fn clones(&self) -> &Clones {
-        &self.aids.clones
-    }
 
     fn dominated(&self, node: &Node, tried: u8) -> CandSet {
         let Some(dominance) = &self.aids.dominance else {

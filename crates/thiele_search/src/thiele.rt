@@ -3,10 +3,9 @@ ghost use Rattle.std.specs.Prelude.{◌≡◌, ◌≤◌, IfOk};
 ghost use Rattle.ballot_base.specs.Clones.{clones_among};
 ghost use Rattle.ballot_base.specs.Lists.{IsIncreasing};
 ghost use Rattle.ballot_base.specs.Limits.{most_members};
-ghost use Rattle.tie_walk.specs.Values.{thiele_of};
+ghost use Rattle.tie_walk.specs.Values.{tally_value, thiele_of};
 ghost use Rattle.tie_walk.specs.Winners.{best_value};
 ghost use Rattle.tie_walk.specs.Ceilings.{ceiling};
-ghost use Rattle.tie_walk.specs.Values.{tally_value};
 ghost use Rattle.thiele_search.specs.Steps.Aided.{IsAided};
 
 use crate::columns::Columns;
@@ -14,14 +13,14 @@ use crate::dominance::Dominance;
 use crate::search::{Aids, round_of};
 use crate::trials::Uses;
 use ballot_base::{CandSet, Clones, Profile, ThieleRule};
+use row_bounds::multipliers::Multipliers;
+use row_bounds::{Moves, Node};
 use std::alloc::{AllocError, Allocator, Global};
 use std::cell::Cell;
 use std::marker::Model;
-use row_bounds::multipliers::Multipliers;
-use row_bounds::{Moves, Node};
 use thiele_bounds::majorant::{HitSums, PAIR_UNITS};
 use thiele_bounds::prices::Priced;
-use tie_search::{Searchable, Tied, descent};
+use tie_search::{Searchable, Tied, WithClones, descent};
 use tie_walk::{Tally, ThieleTally};
 
 /// All memory for a search among the committees of `k` under a Thiele rule, and the columns in it. Contracts see the
@@ -207,13 +206,15 @@ impl<'a, A: Allocator + Copy> Tally for ThieleSearch<'a, A> {
     }
 }
 
-impl<'a, A: Allocator + Copy> Searchable for ThieleSearch<'a, A> {
+impl<'a, A: Allocator + Copy> WithClones for ThieleSearch<'a, A> {
     ghost class_of = { λ tally c. clones_among tally.election.m tally.election.rows c };
 
     fn clones(&self) -> &Clones {
         &self.aids.clones
     }
+}
 
+impl<'a, A: Allocator + Copy> Searchable for ThieleSearch<'a, A> {
     fn find(&self, node: &Node, least: u128) -> Option<CandSet> {
         // One winner after another is asked for, and most of these searches end after a few sets. With pairs, some
         // party lists took six times as long.
