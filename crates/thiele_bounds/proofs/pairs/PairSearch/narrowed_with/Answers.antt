@@ -63,7 +63,7 @@ due-low g c =
     )
 
 pub returns : goal.returns
-returns g c weights are =
+returns g c weights sums =
     let self = c.args.self.now in
     let e = self.profile.now in
     let node = c.args.node.now in
@@ -71,7 +71,7 @@ returns g c weights are =
     let raise = 2 * c.from-factor.result * c.from.result in
     narrowed-members (thiele_value weights e.rows) e.m node.set node.free node.left self.least (λ n. get_or c.sums.result n 0) c.saturating_sub.result self.size c.requires.is_node
     (λ committee whole reaches. pairs-pay weights self.given.now.scale self.given.now.unit e.m e.rows node.set node.free node.left totals.kept totals.worths totals.overlaps c.requires.is_node self.size
-    c.requires.several self.unit are self.least c.units.result raise c.units.ensures (raise-enough g (goal.at.returns g c).After-from) c.sums.result c.sums.ensures c.saturating_sub.result
+    c.requires.several self.given.now.some (c.requires.totals weights sums) self.least c.units.result raise c.units.ensures (raise-enough g (goal.at.returns g c).After-from) c.sums.result c.sums.ensures c.saturating_sub.result
     (due-low g (goal.at.returns g c).After-saturating_sub) committee whole reaches)
     c.members_for.result c.members_for.ensures
 
