@@ -102,15 +102,13 @@ impl HitSums {
         requires fits { before + most ≤ most_candidates }
         ensures { result ≤ most }
     {
-        let mut least = 0;
-        while least < most && self.increment(before + least) > multiplier {
-            least += 1;
+        let mut wanted = 0;
+        while wanted < most
+            && self.increment(before + wanted) + u64::from(wanted < hits) > multiplier
+        {
+            wanted += 1;
         }
-        let mut last = least;
-        while last < most && self.increment(before + last) == multiplier {
-            last += 1;
-        }
-        hits.max(least).min(last)
+        wanted
     }
 
     /// A value in units. Every value with fewer units is lower.

@@ -57,24 +57,17 @@ impl<A: Allocator + Copy> PairSearch<'_, A> {
         if node.free.len() < node.left {
             return None;
         }
-        let mut totals = Totals::nothing();
+        let mut totals = Totals {
+            kept: 0,
+            worths: Worths::none(),
+            overlaps: [0; TABLE_PLACES],
+        };
         self.add_ballots(&mut totals, node);
-        self.narrowed_with(&totals, node)
-    }
-
-    fn narrowed_with(&self, totals: &Totals, node: &Node) -> Option<CandSet>
-        requires is_node { IsNode self.now.profile.now.m node.now.set node.now.free }
-        requires several { 2 ≤ node.now.left }
-        requires small { AreSmall totals.now }
-        requires totals { BoundNode self.now.given.now self.now.profile.now node.now totals.now.kept totals.now.worths
-            totals.now.overlaps }
-        ensures { NarrowsUnder self.now.given.now self.now.profile.now node.now self.now.least result }
-    {
         let (free, left) = (node.free, node.left);
         let factor = 2 * u128::from(left - 1);
         let raise = factor * u128::from(totals.greatest_overlap());
         let rows = Rows {
-            totals,
+            totals: &totals,
             free,
             left,
             raise,
@@ -107,16 +100,6 @@ impl<A: Allocator + Copy> PairSearch<'_, A> {
 }
 
 impl Totals {
-    fn nothing() -> Totals
-        ensures { AreNothing result.kept result.worths result.overlaps }
-    {
-        Totals {
-            kept: 0,
-            worths: Worths::none(),
-            overlaps: [0; TABLE_PLACES],
-        }
-    }
-
     /// Adds the majorant of a ballot that approves these free candidates, once for each of its voters.
     fn add(&mut self, majorant: Majorant, approved: CandSet, voters: u64)
         requires voters { voters ≤ most_voters }

@@ -22,7 +22,9 @@ ghost use Rattle.thiele_bounds.specs.Steps.Totals.{BoundNode};
 use crate::majorant::HitSums;
 use ballot_base::{CandSet, Profile, Worths};
 use row_bounds::Node;
-use row_bounds::multipliers::{Constraint, Effort, Gap, Moved, Multipliers, RowBound, WHOLE, narrowed};
+use row_bounds::multipliers::{
+    Constraint, Effort, Gap, Moved, Multipliers, RowBound, WHOLE, narrowed,
+};
 use std::alloc::Allocator;
 use tie_walk::{Tally, ThieleTally};
 
@@ -113,16 +115,13 @@ impl<A: Allocator + Copy> PriceSearch<'_, A> {
             .within(i, last, self.given.increment(before))
     }
 
-    /// Begins between the increments of the last hit of a good committee and of the next one.
+    /// Begins between the increments of the last hit of a good committee, if there is one, and of the next one.
     fn begin(&self, good: CandSet) {
         for i in 0..self.profile.rows() {
             let (ballot, _voters) = self.profile.row(i);
             let hits = ballot.common(good).len();
             let next = self.given.increment(hits);
-            let last = match hits.checked_sub(1) {
-                Some(before) => self.given.increment(before),
-                None => next,
-            };
+            let last = self.given.increment(hits.saturating_sub(1));
             self.multipliers.begin(i, next / 2 + last / 2);
         }
     }
