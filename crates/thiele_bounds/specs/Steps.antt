@@ -2,4 +2,5 @@ pub mod Majorants
 pub mod Paired
 pub mod Priced
 pub mod Rows
+pub mod Totals
 pub mod Units

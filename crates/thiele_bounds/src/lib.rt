@@ -1,7 +1,7 @@
 //! Bounds on the committees that complete a set under a Thiele rule, which need no gains.
 //!
-//! `prices` bounds by a multiplier for each row, and `pairs` sees which candidates share voters. Both count what hits give
-//! in units: `majorant` has these sums, and the quadratic functions that `pairs` adds up.
+//! `prices` bounds by a multiplier for each row, and `pairs` sees which candidates share voters. Both count what hits
+//! give in units: `majorant` has these sums, and the quadratic functions that `pairs` adds up.
 #![tactic(auto)]
 
 pub mod laws;

@@ -66,7 +66,7 @@ impl HitSums {
     }
 
     /// What the hit after the first `hits` gives. A hit past the last possible one gives nothing.
-    pub fn increment(&self, hits: u8) -> u64
+    pub(crate) fn increment(&self, hits: u8) -> u64
         ensures small { result ≤ most_given }
         ensures rise { hits + 1 ≤ most_candidates
             → slice_index self.now.sums (hits + 1) ≡ slice_index self.now.sums hits + result }
@@ -82,7 +82,7 @@ impl HitSums {
     /// The maximum that a voter gives for the first `before` hits and up to `most` further ones, less the multiplier
     /// for each further hit. No hit gives more than the one before it, so the first that gives too little ends the
     /// count.
-    pub fn kept(&self, before: u8, most: u8, multiplier: u64) -> u64
+    pub(crate) fn kept(&self, before: u8, most: u8, multiplier: u64) -> u64
         requires fits { before + most ≤ most_candidates }
         requires multiplier { multiplier ≤ most_given }
         ensures bounds { (h : ℕ) → h ≤ most
@@ -98,34 +98,39 @@ impl HitSums {
 
     /// The number of further hits after the first `before`, up to `most`, with which a voter keeps the maximum. Of
     /// several such numbers it is the nearest to `hits`.
-    pub fn wanted(&self, before: u8, most: u8, multiplier: u64, hits: u8) -> u8
+    pub(crate) fn wanted(&self, before: u8, most: u8, multiplier: u64, hits: u8) -> u8
         requires fits { before + most ≤ most_candidates }
         ensures { result ≤ most }
     {
-        let mut least = 0;
-        while least < most && self.increment(before + least) > multiplier {
-            least += 1;
+        let mut wanted = 0;
+        while wanted < most
+            && self.increment(before + wanted) + u64::from(wanted < hits) > multiplier
+        {
+            wanted += 1;
         }
-        let mut last = least;
-        while last < most && self.increment(before + last) == multiplier {
-            last += 1;
-        }
-        hits.max(least).min(last)
+        wanted
+    }
+
+    /// A value in units. Every value with fewer units is lower.
+    pub(crate) fn units(&self, value: u128) -> u128
+        ensures { (units : ℕ) → self.now.scale * value ≤ self.now.unit * units → result ≤ units }
+    {
+        value.saturating_mul(self.scale).div_ceil(self.unit)
     }
 }
 
 /// An upper bound on what a voter gives for h further hits: `kept + worth * h - overlap * h * h`.
 #[derive(Clone, Copy)]
-pub struct Majorant {
-    pub kept: u64,
-    pub worth: u64,
-    pub overlap: u64,
+pub(crate) struct Majorant {
+    pub(crate) kept: u64,
+    pub(crate) worth: u64,
+    pub(crate) overlap: u64,
 }
 
 impl Majorant {
     /// A majorant for up to `most` hits after the first `before`. It is exact at `touch` further hits and at one more,
     /// as far as that can be.
-    pub fn at(sums: &[u64; PLACES], before: u8, most: u8, touch: u8) -> Majorant
+    pub(crate) fn at(sums: &[u64; PLACES], before: u8, most: u8, touch: u8) -> Majorant
         requires small { (n : ℕ) → slice_index sums.now n ≤ most_given_to_pairs }
         requires fits { before + most ≤ most_candidates }
         requires touch { touch ≤ most }
@@ -179,7 +184,7 @@ const TABLE_PLACES: usize = 256;
 /// The majorants of ballots if `left` of `free` candidates complete a set. Each is computed when it is first asked for,
 /// and kept. Contracts see the sums and `left`.
 #[derive(Drop)]
-pub struct Majorants<'a> {
+pub(crate) struct Majorants<'a> {
     sums: &'a [u64; PLACES],
     left: u8,
     free: u8,
@@ -200,7 +205,7 @@ impl<'a> Model for Majorants<'a> {
 }
 
 impl<'a> Majorants<'a> {
-    pub fn new(sums: &'a [u64; PLACES], left: u8, free: u8) -> Majorants<'a>
+    pub(crate) fn new(sums: &'a [u64; PLACES], left: u8, free: u8) -> Majorants<'a>
         requires some { 1 ≤ free }
         requires small { (n : ℕ) → slice_index sums.now n ≤ most_given_to_pairs }
         ensures sums { result.sums ≡ sums.now }
@@ -215,7 +220,7 @@ impl<'a> Majorants<'a> {
     }
 
     /// The majorant of a ballot that has `before` hits and approves `approved` free candidates.
-    pub fn of_ballot(&mut self, before: u8, approved: u8) -> Majorant
+    pub(crate) fn of_ballot(&mut self, before: u8, approved: u8) -> Majorant
         requires { before + approved ≤ most_candidates }
         ensures majorant { IsMajorantOf self.old.sums before (min self.old.left approved) result }
         ensures same { self.new ≡ self.old }
@@ -233,22 +238,14 @@ impl<'a> Majorants<'a> {
         majorant
     }
 
+    /// The majorant is exact at the mean number of hits if `left` of the free candidates are drawn at random. The
+    /// quadratic with the lowest mean bound entered as many sets.
     fn made(&self, before: u8, approved: u8) -> Majorant
         requires { before + approved ≤ most_candidates }
         ensures { IsMajorantOf self.now.sums before (min self.now.left approved) result }
     {
         let most = self.left.min(approved);
-        let touch = touch_point(approved, most, self.left, self.free);
-        Majorant::at(self.sums, before, most, touch)
+        let mean = usize::from(approved) * usize::from(self.left) / usize::from(self.free);
+        Majorant::at(self.sums, before, most, mean.min(usize::from(most)) as u8)
     }
-}
-
-/// The number of hits at which a majorant is exact, up to `most`: the mean if `left` of the free candidates are drawn
-/// at random. The quadratic with the lowest mean bound entered as many sets.
-fn touch_point(approved: u8, most: u8, left: u8, free: u8) -> u8
-    requires some { 1 ≤ free }
-    ensures { result ≤ most }
-{
-    let mean = usize::from(approved) * usize::from(left) / usize::from(free);
-    mean.min(usize::from(most)) as u8
 }

@@ -8,17 +8,16 @@ ghost use Rattle.std.specs.Prelude.{◌≡◌, ℕ, ◌+◌, ◌-◌, ◌*◌, �
 ghost use Rattle.ballot_base.specs.CandSet.{has_member};
 ghost use Rattle.ballot_base.specs.Limits.{most_candidates, most_voters, worth_limit};
 ghost use Rattle.ballot_base.specs.Lists.{IsIncreasing};
-ghost use Rattle.tie_walk.specs.Values.{thiele_value};
 ghost use Rattle.row_bounds.specs.Completions.{IsNode};
-ghost use Rattle.row_bounds.specs.Steps.Narrowed.{Narrows};
-ghost use Rattle.thiele_bounds.specs.Steps.Paired.{AreNothing, AreSmall, AreSums, AreTotals, IsRowSum, IsSmallMajorant, overlap_at, pair_place, triangle};
-ghost use Rattle.thiele_bounds.specs.Steps.Rows.{AreBeside, AreRows};
+ghost use Rattle.thiele_bounds.specs.Steps.Paired.{AreNothing, IsSmallMajorant, overlap_at, pair_place, triangle};
+ghost use Rattle.thiele_bounds.specs.Steps.Rows.{AreBeside, AreRows, IsSum};
+ghost use Rattle.thiele_bounds.specs.Steps.Totals.{AreSmall, BoundNode, NarrowsUnder};
 ghost use Rattle.thiele_bounds.specs.Steps.Units.{most_given_to_pairs};
 
 use crate::majorant::{HitSums, Majorant, Majorants};
 use ballot_base::{CandSet, MOST_CANDIDATES, Profile, Worths};
-use std::alloc::Allocator;
 use row_bounds::Node;
+use std::alloc::Allocator;
 
 /// The number of places in a table of pairs: 65 * 66 / 2.
 const TABLE_PLACES: usize = 2145;
@@ -34,13 +33,12 @@ pub struct PairSearch<'a, A: Allocator + Copy> {
     pub given: &'a HitSums,
     pub least: u128,
     ghost size: { profile.now.m ≤ most_candidates },
-    ghost unit: { 1 ≤ given.now.unit },
     ghost small: { (n : ℕ) → slice_index given.now.sums n ≤ most_given_to_pairs },
 }
 
 /// The majorants of all voters, added up.
 #[derive(Drop)]
-pub struct Totals {
+struct Totals {
     kept: u128,
     // For each free candidate, the worths of all voters who approve it.
     worths: Worths,
@@ -54,35 +52,22 @@ impl<A: Allocator + Copy> PairSearch<'_, A> {
     pub fn narrowed(&self, node: &Node) -> Option<CandSet>
         requires is_node { IsNode self.now.profile.now.m node.now.set node.now.free }
         requires several { 2 ≤ node.now.left }
-        ensures { (weights : List ℕ)
-            → AreSums weights self.now.given.now.scale self.now.given.now.unit self.now.given.now.sums
-            → Narrows (thiele_value weights self.now.profile.now.rows) self.now.profile.now.m node.now self.now.least
-            result }
+        ensures { NarrowsUnder self.now.given.now self.now.profile.now node.now self.now.least result }
     {
         if node.free.len() < node.left {
             return None;
         }
-        let mut totals = Totals::nothing();
+        let mut totals = Totals {
+            kept: 0,
+            worths: Worths::none(),
+            overlaps: [0; TABLE_PLACES],
+        };
         self.add_ballots(&mut totals, node);
-        self.narrowed_with(&totals, node)
-    }
-
-    fn narrowed_with(&self, totals: &Totals, node: &Node) -> Option<CandSet>
-        requires is_node { IsNode self.now.profile.now.m node.now.set node.now.free }
-        requires several { 2 ≤ node.now.left }
-        requires small { AreSmall totals.now.kept totals.now.worths totals.now.overlaps }
-        ensures { (weights : List ℕ)
-            → AreTotals weights self.now.given.now.scale self.now.given.now.unit self.now.profile.now.m
-            self.now.profile.now.rows node.now.set node.now.free node.now.left totals.now.kept totals.now.worths
-            totals.now.overlaps
-            → Narrows (thiele_value weights self.now.profile.now.rows) self.now.profile.now.m node.now self.now.least
-            result }
-    {
         let (free, left) = (node.free, node.left);
         let factor = 2 * u128::from(left - 1);
         let raise = factor * u128::from(totals.greatest_overlap());
         let rows = Rows {
-            totals,
+            totals: &totals,
             free,
             left,
             raise,
@@ -100,12 +85,9 @@ impl<A: Allocator + Copy> PairSearch<'_, A> {
         requires is_node { IsNode self.now.profile.now.m node.now.set node.now.free }
         requires some { 1 ≤ length node.now.free }
         requires nothing { AreNothing totals.old.kept totals.old.worths totals.old.overlaps }
-        ensures totals { (weights : List ℕ)
-            → AreSums weights self.now.given.now.scale self.now.given.now.unit self.now.given.now.sums
-            → AreTotals weights self.now.given.now.scale self.now.given.now.unit self.now.profile.now.m
-            self.now.profile.now.rows node.now.set node.now.free node.now.left totals.new.kept totals.new.worths
+        ensures totals { BoundNode self.now.given.now self.now.profile.now node.now totals.new.kept totals.new.worths
             totals.new.overlaps }
-        ensures small { AreSmall totals.new.kept totals.new.worths totals.new.overlaps }
+        ensures small { AreSmall totals.new }
     {
         let mut majorants = Majorants::new(&self.given.sums, node.left, node.free.len());
         for (ballot, voters) in self.profile.ballots() {
@@ -118,21 +100,11 @@ impl<A: Allocator + Copy> PairSearch<'_, A> {
 }
 
 impl Totals {
-    fn nothing() -> Totals
-        ensures { AreNothing result.kept result.worths result.overlaps }
-    {
-        Totals {
-            kept: 0,
-            worths: Worths::none(),
-            overlaps: [0; TABLE_PLACES],
-        }
-    }
-
     /// Adds the majorant of a ballot that approves these free candidates, once for each of its voters.
     fn add(&mut self, majorant: Majorant, approved: CandSet, voters: u64)
         requires voters { voters ≤ most_voters }
         requires majorant { IsSmallMajorant majorant }
-        requires small { AreSmall self.old.kept self.old.worths self.old.overlaps }
+        requires small { AreSmall self.old }
         ensures kept { self.new.kept ≡ self.old.kept + voters * majorant.kept }
         ensures worths { (n : ℕ) → slice_index self.new.worths n ≡ slice_index self.old.worths n
             + (if has_member approved n then voters * majorant.worth else 0) }
@@ -151,7 +123,7 @@ impl Totals {
 
     /// The highest overlap of two candidates. It is that of some candidate with itself.
     fn greatest_overlap(&self) -> u64
-        requires small { AreSmall self.now.kept self.now.worths self.now.overlaps }
+        requires small { AreSmall self.now }
         ensures most { (i j : ℕ) → i ≤ most_candidates → j ≤ most_candidates
             → overlap_at self.now.overlaps i j ≤ result }
         ensures small { result ≤ 2 ^ 58 }
@@ -177,9 +149,7 @@ struct Rows<'a> {
 impl Rows<'_> {
     fn sums(&self) -> Worths
         requires { AreRows self.now }
-        ensures { (i : ℕ) → has_member self.now.free i ≡ true
-            → IsRowSum self.now.totals.now.worths self.now.totals.now.overlaps self.now.free self.now.left
-            self.now.raise i (slice_index result i) }
+        ensures { (i : ℕ) → has_member self.now.free i ≡ true → IsSum self.now i (slice_index result i) }
     {
         let mut sums = Worths::none();
         for i in self.free.members() {
@@ -192,8 +162,7 @@ impl Rows<'_> {
         requires rows { AreRows self.now }
         requires candidates { IsIncreasing 1 most_candidates self.now.free }
         requires member { has_member self.now.free i ≡ true }
-        ensures sum { IsRowSum self.now.totals.now.worths self.now.totals.now.overlaps self.now.free self.now.left
-            self.now.raise i result }
+        ensures sum { IsSum self.now i result }
         ensures small { result < worth_limit }
     {
         let beside = self.beside(i);

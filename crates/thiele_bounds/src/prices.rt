@@ -6,21 +6,26 @@
 //! set is worth more than what all keep and the prices of the candidates that join (`laws::prices`; Fisher, The
 //! Lagrangian relaxation method for solving integer programming problems, 1981).
 //!
-//! The multipliers are moved (`tie_search::multipliers`). With prices of the whole election only, five parties with
+//! The multipliers are moved (`row_bounds::multipliers`). With prices of the whole election only, five parties with
 //! noise, 64 candidates and 10 seats took 8 s and not 0.8 s under `pav`.
 ghost use Rattle.std.specs.Prelude.{◌≡◌, ℕ, ◌+◌, ◌*◌, ◌≤◌, List, [], slice_index, MatchOption, ⊤};
 ghost use Rattle.ballot_base.specs.Limits.{most_candidates, most_members};
 ghost use Rattle.ballot_base.specs.Increments.{increments};
+ghost use Rattle.tie_walk.specs.Values.{Thiele, tally_value};
 ghost use Rattle.row_bounds.specs.Completions.{IsNode};
-ghost use Rattle.thiele_bounds.specs.Steps.Paired.{AreSums, AreTotals};
+ghost use Rattle.row_bounds.specs.Steps.Narrowed.{Narrows};
+ghost use Rattle.thiele_bounds.specs.Steps.Paired.{AreSums};
 ghost use Rattle.thiele_bounds.specs.Steps.Units.{most_given, most_priced};
 ghost use Rattle.thiele_bounds.specs.Steps.Priced.{ArePrices};
+ghost use Rattle.thiele_bounds.specs.Steps.Totals.{BoundNode};
 
 use crate::majorant::HitSums;
 use ballot_base::{CandSet, Profile, Worths};
-use std::alloc::Allocator;
 use row_bounds::Node;
-use row_bounds::multipliers::{Constraint, Effort, Gap, Multipliers, RowBound, WHOLE, narrowed};
+use row_bounds::multipliers::{
+    Constraint, Effort, Gap, Moved, Multipliers, RowBound, WHOLE, narrowed,
+};
+use std::alloc::Allocator;
 use tie_walk::{Tally, ThieleTally};
 
 /// The first hit gives about this many units: enough that rounding matters little.
@@ -51,19 +56,19 @@ fn root(units: u128) -> Effort {
         least_pace: 1,
         patience: 20,
         large_gap: Some(units / LARGE_GAP),
-        goes_back: true,
+        ..NODE
     }
 }
 
 /// What a search looks for by prices: the ballots, what hits give, a multiplier for each row, and the value that a
 /// committee has to reach.
 #[derive(Drop)]
-pub struct PriceSearch<'a, A: Allocator + Copy> {
-    pub profile: &'a Profile<A>,
-    pub tally: &'a ThieleTally<'a, A>,
-    pub given: &'a HitSums,
-    pub multipliers: &'a Multipliers<A>,
-    pub least: u128,
+struct PriceSearch<'a, A: Allocator + Copy> {
+    profile: &'a Profile<A>,
+    tally: &'a ThieleTally<'a, A>,
+    given: &'a HitSums,
+    multipliers: &'a Multipliers<A>,
+    least: u128,
     ghost size: { profile.now.m ≤ most_candidates },
     ghost ballots: { profile.now ≡ tally.now.election },
     ghost sums: { AreSums (increments tally.now.rule tally.now.k) given.now.scale given.now.unit given.now.sums },
@@ -78,12 +83,9 @@ pub struct Prices {
 
 impl<A: Allocator + Copy> PriceSearch<'_, A> {
     /// The prices at a node, by the present multipliers.
-    pub fn prices(&self, node: &Node) -> Prices
+    fn prices(&self, node: &Node) -> Prices
         requires is_node { IsNode self.now.profile.now.m node.now.set node.now.free }
-        ensures totals { (weights : List ℕ)
-            → AreSums weights self.now.given.now.scale self.now.given.now.unit self.now.given.now.sums
-            → AreTotals weights self.now.given.now.scale self.now.given.now.unit self.now.profile.now.m
-            self.now.profile.now.rows node.now.set node.now.free node.now.left result.kept result.worths [] }
+        ensures totals { BoundNode self.now.given.now self.now.profile.now node.now result.kept result.worths [] }
         ensures kept { result.kept ≤ most_priced }
         ensures worths { (n : ℕ) → slice_index result.worths n ≤ most_priced }
     {
@@ -113,16 +115,13 @@ impl<A: Allocator + Copy> PriceSearch<'_, A> {
             .within(i, last, self.given.increment(before))
     }
 
-    /// Begins between the increments of the last hit of a good committee and of the next one.
+    /// Begins between the increments of the last hit of a good committee, if there is one, and of the next one.
     fn begin(&self, good: CandSet) {
         for i in 0..self.profile.rows() {
             let (ballot, _voters) = self.profile.row(i);
             let hits = ballot.common(good).len();
             let next = self.given.increment(hits);
-            let last = match hits.checked_sub(1) {
-                Some(before) => self.given.increment(before),
-                None => next,
-            };
+            let last = self.given.increment(hits.saturating_sub(1));
             self.multipliers.begin(i, next / 2 + last / 2);
         }
     }
@@ -178,9 +177,9 @@ pub struct Priced<A: Allocator> {
     pub given: HitSums,
     pub multipliers: Multipliers<A>,
     pub whole: Prices,
-    // The candidates of the highest prices.
+    /// The candidates of the highest prices.
     pub dearest: CandSet,
-    // Whether the prices show that no committee is better than the one that they were made for.
+    /// Whether the prices show that no committee is better than the one that they were made for.
     pub show_best: bool,
 }
 
@@ -228,13 +227,44 @@ impl<A: Allocator + Copy> Priced<A> {
             show_best: moved.free.is_none(),
         })
     }
-}
-
-impl HitSums {
-    /// A value in units. Every value with fewer units is lower.
-    pub fn units(&self, value: u128) -> u128
-        ensures { (units : ℕ) → self.now.scale * value ≤ self.now.unit * units → result ≤ units }
+    /// The free candidates of a node that can still join, by the prices of the whole election. Returns `None` only if no
+    /// completion of its set reaches the value. In a committee of another size than `k` all can still join.
+    pub fn narrowed(&self, node: &Node, least: u128) -> Option<CandSet>
+        ensures { (tally : Thiele) → ArePrices tally self.now → tally.election.m ≤ most_candidates
+            → IsNode tally.election.m node.now.set node.now.free
+            → Narrows (tally_value tally) tally.election.m node.now least result }
     {
-        value.saturating_mul(self.scale).div_ceil(self.unit)
+        if u16::from(node.set.len()) + u16::from(node.left) != u16::from(self.k) {
+            return Some(node.free);
+        }
+        let Prices { kept, worths } = &self.whole;
+        let paid = kept.saturating_add(worths.excess(node.set, 0));
+        let due = self.given.units(least).saturating_sub(paid);
+        worths.members_for(node.free, node.left, due)
+    }
+
+    /// Like `narrowed`, but by prices of the node, whose multipliers are moved.
+    pub fn moved(
+        &self,
+        profile: &Profile<A>,
+        tally: &ThieleTally<A>,
+        node: &Node,
+        least: u128,
+        effort: Effort,
+    ) -> Moved
+        requires prices { ArePrices tally.now self.now }
+        requires ballots { profile.now ≡ tally.now.election }
+        requires most { profile.now.m ≤ most_candidates }
+        requires is_node { IsNode profile.now.m node.now.set node.now.free }
+        ensures { Narrows (tally_value tally.now) profile.now.m node.now least result.free }
+    {
+        let search = PriceSearch {
+            profile,
+            tally,
+            given: &self.given,
+            multipliers: &self.multipliers,
+            least,
+        };
+        narrowed(&search, &self.multipliers, node, effort)
     }
 }

@@ -12,11 +12,10 @@ ghost use Rattle.ballot_base.specs.Limits.{most_candidates, most_members};
 ghost use Rattle.ballot_base.specs.Ballots.{hits, voter_count};
 ghost use Rattle.ballot_base.specs.CandSet.{has_member};
 ghost use Rattle.tie_walk.specs.Values.{thiele_of};
-ghost use Rattle.thiele_search.specs.Steps.Columns.{block_voters, most_blocks, total, shared, given, approves_some, IsBlock, AreByHits, AreColumns, AreColumnsOf, AreRising, AreWeights, voters_of, voter_ballot, word_before};
+ghost use Rattle.thiele_search.specs.Steps.Columns.{AreAdded, block_voters, most_blocks, total, shared, given, approves_some, IsBlock, AreByHits, AreColumns, AreColumnsOf, AreRising, AreWeights, voters_of, voter_ballot, word_before};
 
 use ballot_base::{CandSet, Increments, MOST_MEMBERS, PLACES, Profile, ThieleRule, Worths};
 use std::alloc::{AllocError, Allocator};
-use row_bounds::Node;
 
 /// The number of voters who share a word.
 const BLOCK_VOTERS: usize = 64;
@@ -51,22 +50,13 @@ fn add_hit(words: &mut Block, approving: u64, levels: usize)
     }
 }
 
-fn no_hits() -> Block
-    ensures long { length result ≡ most_candidates + 1 }
-    ensures none { slice_index result 0 ≡ 2 ^ 64 - 1 }
-    ensures others { (h : ℕ) → 1 ≤ h → slice_index result h ≡ 0 }
-{
-    let mut words = [0; PLACES];
-    words[0] = u64::MAX;
-    words
-}
-
 /// For each of the first `levels` numbers of hits, at the number, which voters of a block have it.
 fn by_hits(block: &Block, set: CandSet, levels: usize) -> Block
     requires { levels ≤ most_members }
     ensures { (ballot_at : ℕ → List ℕ) → IsBlock ballot_at block.now → AreByHits ballot_at set levels result }
 {
-    let mut words = no_hits();
+    let mut words = [0; PLACES];
+    words[0] = u64::MAX;
     for member in set.members() {
         add_hit(&mut words, block[usize::from(member)], levels);
     }
@@ -98,14 +88,6 @@ fn given_by(words: &Block, column: u64, weights: &Weights, levels: usize) -> u64
         sum += weights[h] * u64::from((column & words[h]).count_ones());
     }
     sum
-}
-
-fn given_first(column: u64, uncovered: u64, weight: u64) -> u64
-    requires { weight < 2 ^ 44 }
-    ensures sum { result ≡ weight * shared column uncovered }
-    ensures most { result ≤ 2 ^ 50 }
-{
-    weight * u64::from((column & uncovered).count_ones())
 }
 
 /// Puts a voter at a place of a block: the bit of the place is set for each candidate on the ballot.
@@ -161,33 +143,24 @@ fn blocks_of<A: Allocator + Copy + Drop>(
     Ok(blocks)
 }
 
-/// The weights in words of 64 bits, if no weight is too large.
-fn small_weights(weights: &[u128; MOST_MEMBERS as usize]) -> Option<Weights>
-    ensures { MatchOption result ⊤ (λ small. (j : ℕ) → (slice_index small j ≡ slice_index weights.now j)
-        × (slice_index small j < 2 ^ 44)) }
+/// The weights in words of 64 bits, and the number of the last hit that gives something. Returns `None` if a weight is
+/// too large.
+fn small_weights(weights: &[u128; MOST_MEMBERS as usize]) -> Option<(Weights, usize)>
+    ensures { MatchOption result ⊤ (λ small. AreWeights small.0 small.1
+        × ((j : ℕ) → slice_index small.0 j ≡ slice_index weights.now j)) }
 {
     let mut small = [0; MOST_MEMBERS as usize];
+    let mut levels = 0;
     for j in 0..small.len() {
         if weights[j] >= LARGE_WEIGHT {
             return None;
         }
         small[j] = weights[j] as u64;
-    }
-    Some(small)
-}
-
-/// The number of the last hit that gives something.
-fn last_level(weights: &Weights) -> usize
-    ensures most { result ≤ most_members }
-    ensures end { (j : ℕ) → result ≤ j → slice_index weights.now j ≡ 0 }
-{
-    let mut levels = 0;
-    for j in 0..weights.len() {
-        if weights[j] > 0 {
+        if small[j] > 0 {
             levels = j + 1;
         }
     }
-    levels
+    Some((small, levels))
 }
 
 /// The ballots of a profile, candidate by candidate, and what a voter gives for each hit.
@@ -218,28 +191,29 @@ impl<A: Allocator + Copy + Drop> Columns<A> {
         if voters > MOST_BLOCKS * BLOCK_VOTERS || voters / ROW_VOTERS > profile.rows() {
             return Ok(None);
         }
-        let Some(weights) = small_weights(&Increments::of(rule, k).w) else {
+        let Some(small) = small_weights(&Increments::of(rule, k).w) else {
             return Ok(None);
         };
+        let weights = small.0;
         Ok(Some(Columns {
             blocks: blocks_of(alloc, profile)?,
-            levels: last_level(&weights),
             weights,
+            levels: small.1,
         }))
     }
 }
 
 impl<A: Allocator> Columns<A> {
-    /// What the set of a node gains by each of the free candidates.
-    pub(crate) fn gains_of(&self, node: &Node) -> Worths
+    /// What a set gains by each of the free candidates.
+    pub(crate) fn gains_of(&self, set: CandSet, free: CandSet) -> Worths
         ensures { (ballots : List (List ℕ)) → AreColumns ballots self.now.blocks.items → AreRising ballots
-            → (c : ℕ) → has_member node.now.free c ≡ true → slice_index result c
-            ≡ total (λ v. given self.now.weights node.now.set c (voter_ballot ballots v))
+            → (c : ℕ) → has_member free c ≡ true → slice_index result c
+            ≡ total (λ v. given self.now.weights set c (voter_ballot ballots v))
             (length self.now.blocks.items * block_voters) }
     {
         let mut gains = Worths::none();
         for block in &self.blocks {
-            self.add_block(&mut gains, block, node);
+            self.add_block(&mut gains, block, set, free);
         }
         gains
     }
@@ -258,20 +232,19 @@ impl<A: Allocator> Columns<A> {
 
     /// Adds to the gains of the free candidates what the voters of a block give. No voter has more hits than the set
     /// has members.
-    fn add_block(&self, gains: &mut Worths, block: &Block, node: &Node)
+    fn add_block(&self, gains: &mut Worths, block: &Block, set: CandSet, free: CandSet)
         requires { (c : ℕ) → slice_index gains.old c < 2 ^ 106 }
         ensures sum { (ballot_at : ℕ → List ℕ) → IsBlock ballot_at block.now
-            → (c : ℕ) → has_member node.now.free c ≡ true → slice_index gains.new c
-            ≡ slice_index gains.old c + total (λ i. given self.now.weights node.now.set c (ballot_at i)) block_voters }
+            → AreAdded self.now.weights set free ballot_at gains.old gains.new }
         ensures most { (c : ℕ) → slice_index gains.new c ≤ slice_index gains.old c + most_members * 2 ^ 50 }
     {
         if self.levels == 1 {
-            self.add_first_hits(gains, block, node);
+            self.add_first_hits(gains, block, set, free);
             return;
         }
-        let levels = self.levels.min(usize::from(node.set.len()) + 1);
-        let words = by_hits(block, node.set, levels);
-        for candidate in node.free.members() {
+        let levels = self.levels.min(usize::from(set.len()) + 1);
+        let words = by_hits(block, set, levels);
+        for candidate in free.members() {
             let column = block[usize::from(candidate)];
             let given = given_by(&words, column, &self.weights, levels);
             gains.set(candidate, gains.of(candidate) + u128::from(given));
@@ -280,19 +253,21 @@ impl<A: Allocator> Columns<A> {
 
     /// Like `add_block`, if only a voter's first hit counts. One word, for the voters without a hit, is enough; with a
     /// word for each number of hits, random elections took a quarter more instructions.
-    fn add_first_hits(&self, gains: &mut Worths, block: &Block, node: &Node)
+    fn add_first_hits(&self, gains: &mut Worths, block: &Block, set: CandSet, free: CandSet)
         requires first { self.now.levels ≡ 1 }
         requires fits { (c : ℕ) → slice_index gains.old c < 2 ^ 106 }
         ensures sum { (ballot_at : ℕ → List ℕ) → IsBlock ballot_at block.now
-            → (c : ℕ) → has_member node.now.free c ≡ true → slice_index gains.new c
-            ≡ slice_index gains.old c + total (λ i. given self.now.weights node.now.set c (ballot_at i)) block_voters }
+            → AreAdded self.now.weights set free ballot_at gains.old gains.new }
         ensures most { (c : ℕ) → slice_index gains.new c ≤ slice_index gains.old c + most_members * 2 ^ 50 }
     {
-        let uncovered = !covered_by(block, node.set);
+        let uncovered = !covered_by(block, set);
         let weight = self.weights[0];
-        for candidate in node.free.members() {
-            let given = given_first(block[usize::from(candidate)], uncovered, weight);
-            gains.set(candidate, gains.of(candidate) + u128::from(given));
+        for candidate in free.members() {
+            let shared = (block[usize::from(candidate)] & uncovered).count_ones();
+            gains.set(
+                candidate,
+                gains.of(candidate) + u128::from(weight * u64::from(shared)),
+            );
         }
     }
 }

@@ -23,7 +23,7 @@ impl<A: Allocator + Copy> ThieleSearch<'_, A> {
         let mut committee = CandSet::empty();
         for _joined in 0..k {
             let others = all.minus(committee);
-            let gains = self.gains_at(&self.node(committee, others, 1));
+            let gains = self.gains_at(committee, others);
             let Some(next) = gains.best_of(others) else {
                 break;
             };
@@ -38,22 +38,13 @@ impl<A: Allocator + Copy> ThieleSearch<'_, A> {
     {
         let mut best = CandSet::all(self.values.m()).common(committee);
         for _pass in 0..MOST_PASSES {
-            let better = self.exchanged_once(best);
-            if better == best {
+            let before = best;
+            for member in before.members() {
+                best = self.replaced(best, member);
+            }
+            if best == before {
                 break;
             }
-            best = better;
-        }
-        best
-    }
-
-    fn exchanged_once(&self, committee: CandSet) -> CandSet
-        requires { IsIncreasing 1 self.now.election.m committee }
-        ensures { IsIncreasing 1 self.now.election.m result }
-    {
-        let mut best = committee;
-        for member in committee.members() {
-            best = self.replaced(best, member);
         }
         best
     }
@@ -67,7 +58,7 @@ impl<A: Allocator + Copy> ThieleSearch<'_, A> {
         let all = CandSet::all(self.values.m());
         let rest = committee.without(member);
         let others = all.minus(rest);
-        let gains = self.gains_at(&self.node(rest, others, 1));
+        let gains = self.gains_at(rest, others);
         match gains.best_of(others) {
             Some(next) if gains.of(next) > gains.of(member) => rest.with(next),
             _ => committee,

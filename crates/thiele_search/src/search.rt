@@ -24,13 +24,13 @@ use crate::columns::Columns;
 use crate::dominance::Dominance;
 use crate::thiele::ThieleSearch;
 use crate::trials::{FEW_SEATS, Uses};
-use ballot_base::{CandSet, Clones, Profile, ThieleRule, Worths};
+use ballot_base::{CandSet, Clones, ThieleRule, Worths};
 use row_bounds::Node;
-use row_bounds::multipliers::{self, Effort};
+use row_bounds::multipliers::Effort;
 use std::alloc::Allocator;
 use thiele_bounds::majorant::HitSums;
 use thiele_bounds::pairs::PairSearch;
-use thiele_bounds::prices::{AGAIN, NODE, PriceSearch, Priced};
+use thiele_bounds::prices::{AGAIN, NODE, Priced};
 use tie_search::descent::{Narrowing, Plan};
 use tie_walk::Tally;
 
@@ -47,24 +47,9 @@ pub(crate) struct Aids<A: Allocator> {
 }
 
 impl<'a, A: Allocator + Copy> ThieleSearch<'a, A> {
-    pub(crate) fn node(&self, set: CandSet, free: CandSet, left: u8) -> Node
-        requires candidates { IsIncreasing 1 self.now.election.m set }
-        ensures set { result.set ≡ set }
-        ensures valued { IsValued self.now set result.value }
-        ensures free { result.free ≡ free }
-        ensures left { result.left ≡ left }
-    {
-        Node {
-            set,
-            value: self.values.value(set),
-            free,
-            left,
-        }
-    }
-
     /// The free candidates of a node that can still join, by the gains of its set or of a set with fewer members.
     /// Returns `None` only if no completion of the set reaches the value.
-    pub(crate) fn promising(&self, gains: &Worths, node: &Node, least: u128) -> Option<CandSet>
+    fn promising(&self, gains: &Worths, node: &Node, least: u128) -> Option<CandSet>
         requires is_node { IsNode self.now.election.m node.now.set node.now.free }
         requires valued { IsValued self.now node.now.set node.now.value }
         requires gains { (n : ℕ) → has_member node.now.free n ≡ true
@@ -80,9 +65,7 @@ impl<'a, A: Allocator + Copy> ThieleSearch<'a, A> {
         requires is_node { IsNode self.now.election.m node.now.set node.now.free }
         ensures { Narrows (tally_value self.now) self.now.election.m node.now least result }
     {
-        if !self.covers(node, least) {
-            return None;
-        }
+        self.covered(node, least)?;
         let free = self.priced(node, least)?;
         // Counting pairs takes about as long as a round over the rows.
         let rounds = u32::from(self.sees_pairs(node.left));
@@ -96,45 +79,34 @@ impl<'a, A: Allocator + Copy> ThieleSearch<'a, A> {
         requires is_node { IsNode self.now.election.m node.now.set node.now.free }
         ensures { Narrows (tally_value self.now) self.now.election.m node.now least result }
     {
-        let Some(priced) = &self.aids.priced else {
-            return Some(node.free);
-        };
-        if !may_move(self.values.rule()) || !self.moves.are_due(node.left) {
-            return Some(node.free);
+        match &self.aids.priced {
+            // Under `cc` a set takes so little time that moves cost more than they save.
+            Some(priced) if self.values.rule() != ThieleRule::Cc && self.moves.are_due(node.left) =>
+                {
+                    let moved = priced.moved(self.profile, &self.values, node, least, effort);
+                    self.moves.note(node, &moved);
+                    moved.free
+                }
+            _ => Some(node.free),
         }
-        let search = PriceSearch {
-            profile: self.profile,
-            tally: &self.values,
-            given: &priced.given,
-            multipliers: &priced.multipliers,
-            least,
-        };
-        let moved = multipliers::narrowed(&search, &priced.multipliers, node, effort);
-        self.moves.note(node, &moved);
-        moved.free
     }
 
-    /// Whether the free candidates of a node cover enough voters, if this is worth asking. Under rules other than `cc`,
-    /// which counts only a voter's first hit, the answer would seldom be no, and is yes.
-    fn covers(&self, node: &Node, least: u128) -> bool
+    /// Like `eligible`, but by how many voters the free candidates cover, if this is worth asking. Under rules other than
+    /// `cc`, which counts only a voter's first hit, the answer would seldom be no.
+    fn covered(&self, node: &Node, least: u128) -> Option<CandSet>
         requires is_node { IsNode self.now.election.m node.now.set node.now.free }
-        ensures { result ≡ false
-            → IsOutOfReach (tally_value self.now) self.now.election.m node.now.set node.now.free
-            node.now.left least }
+        ensures { Narrows (tally_value self.now) self.now.election.m node.now least result }
     {
-        match self.values.rule() {
-            ThieleRule::Cc => {
-                let cover = &self.aids.uses.cover;
-                if node.left <= FEW_SEATS && !cover.are_due() {
-                    cover.pass();
-                    return true;
-                }
-                let suffices = self.most_covered(node.set.union(node.free)) >= least;
-                cover.note(!suffices);
-                suffices
-            }
-            _ => true,
+        if self.values.rule() != ThieleRule::Cc {
+            return Some(node.free);
         }
+        let uses = &self.aids.uses.cover;
+        if node.left <= FEW_SEATS && !uses.are_due() {
+            uses.pass();
+            return Some(node.free);
+        }
+        let suffices = self.most_covered(node.set.union(node.free)) >= least;
+        uses.note(suffices.then_some(node.free))
     }
 
     /// Like `eligible`, but by the prices of the whole election, if they are kept and worth asking for.
@@ -142,25 +114,16 @@ impl<'a, A: Allocator + Copy> ThieleSearch<'a, A> {
         requires is_node { IsNode self.now.election.m node.now.set node.now.free }
         ensures { Narrows (tally_value self.now) self.now.election.m node.now least result }
     {
-        let Some(priced) = &self.aids.priced else {
-            return Some(node.free);
-        };
         let uses = &self.aids.uses.prices;
-        if node.left <= FEW_SEATS && !uses.are_due() {
-            uses.pass();
-            return Some(node.free);
+        match &self.aids.priced {
+            Some(priced) if node.left > FEW_SEATS || uses.are_due() => {
+                uses.note(priced.narrowed(node, least))
+            }
+            _ => {
+                uses.pass();
+                Some(node.free)
+            }
         }
-        if u16::from(node.set.len()) + u16::from(node.left) != u16::from(priced.k) {
-            return Some(node.free);
-        }
-        let prices = &priced.whole;
-        let paid = prices
-            .kept
-            .saturating_add(prices.worths.excess(node.set, 0));
-        let due = priced.given.units(least).saturating_sub(paid);
-        let affordable = prices.worths.members_for(node.free, node.left, due);
-        uses.note(affordable.is_none());
-        affordable
     }
 
     /// Whether pairs are worth counting: in a long search, if enough seats are left and pairs help.
@@ -177,33 +140,34 @@ impl<'a, A: Allocator + Copy> ThieleSearch<'a, A> {
     #[inline(never)]
     fn pair_narrowed(&self, node: &Node, least: u128) -> Option<CandSet>
         requires is_node { IsNode self.now.election.m node.now.set node.now.free }
-        ensures { Narrows (tally_value self.now) self.now.election.m node.now
-            least result }
+        ensures { Narrows (tally_value self.now) self.now.election.m node.now least result }
     {
-        let Some(given) = &self.aids.sums else {
-            return Some(node.free);
-        };
-        if !self.sees_pairs(node.left) {
-            self.aids.uses.pairs.pass();
-            return Some(node.free);
+        let uses = &self.aids.uses.pairs;
+        match &self.aids.sums {
+            Some(given) if self.sees_pairs(node.left) => {
+                let profile = self.profile;
+                let pairs = PairSearch {
+                    profile,
+                    given,
+                    least,
+                };
+                uses.note(pairs.narrowed(node))
+            }
+            _ => {
+                uses.pass();
+                Some(node.free)
+            }
         }
-        let pairs = PairSearch {
-            profile: self.profile,
-            given,
-            least,
-        };
-        let narrowed = pairs.narrowed(node);
-        self.aids.uses.pairs.note(narrowed.is_none());
-        narrowed
     }
 
-    pub(crate) fn gains_at(&self, node: &Node) -> Worths
-        ensures { (n : ℕ) → has_member node.now.free n ≡ true → slice_index result n
-            ≡ gain (increments self.now.rule self.now.k) self.now.election.rows node.now.set n }
+    /// What a set gains by each of the free candidates.
+    pub(crate) fn gains_at(&self, set: CandSet, free: CandSet) -> Worths
+        ensures { (n : ℕ) → has_member free n ≡ true → slice_index result n
+            ≡ gain (increments self.now.rule self.now.k) self.now.election.rows set n }
     {
         match &self.aids.columns {
-            Some(columns) => columns.gains_of(node),
-            None => self.values.gains(node.set, node.free),
+            Some(columns) => columns.gains_of(set, free),
+            None => self.values.gains(set, free),
         }
     }
 
@@ -223,26 +187,14 @@ impl<'a, A: Allocator + Copy> ThieleSearch<'a, A> {
 impl<'a, A: Allocator + Copy> Narrowing for ThieleSearch<'a, A> {
     ghost use Rattle.std.specs.Prelude.{◌≡◌, ℕ, true, slice_index};
     ghost use Rattle.ballot_base.specs.CandSet.{has_member};
-    ghost use Rattle.ballot_base.specs.Clones.{clones_among};
     ghost use Rattle.ballot_base.specs.Increments.{increments};
     ghost use Rattle.tie_walk.specs.Sequences.{gain};
-    ghost use Rattle.tie_walk.specs.Values.{tally_value};
     ghost use Rattle.thiele_search.specs.Steps.Aided.{IsValued};
-
-    ghost candidates = { λ tally. tally.election.m };
-
-    ghost value_of = { λ tally set. tally_value tally set };
-
-    ghost class_of = { λ tally c. clones_among tally.election.m tally.election.rows c };
 
     ghost is_valued = { λ tally set value. IsValued tally set value };
 
     ghost is_plan = { λ tally set left plan. (n : ℕ) → has_member plan.eligible n ≡ true
         → slice_index plan.worths n ≡ gain (increments tally.rule tally.k) tally.election.rows set n };
-
-    fn clones(&self) -> &Clones {
-        &self.aids.clones
-    }
 
     fn dominated(&self, node: &Node, tried: u8) -> CandSet {
         let Some(dominance) = &self.aids.dominance else {
@@ -261,7 +213,7 @@ impl<'a, A: Allocator + Copy> Narrowing for ThieleSearch<'a, A> {
     fn plan(&self, node: &Node, least: u128) -> Option<Plan> {
         self.moves.enter(node.left);
         let free = self.eligible(node, least, NODE)?;
-        let gains = self.gains_at(&Node { free, ..*node });
+        let gains = self.gains_at(node.set, free);
         let eligible = self.promising(&gains, &Node { free, ..*node }, least)?;
         Some(Plan {
             eligible,
@@ -290,17 +242,6 @@ impl<'a, A: Allocator + Copy> Narrowing for ThieleSearch<'a, A> {
         };
         Node { free, ..child }
     }
-}
-
-/// The work of a round over this many rows. A visit passes over blocks of voters, and takes less.
-pub(crate) fn round_of(rows: usize) -> u64 {
-    rows.div_ceil(32) as u64
-}
-
-/// Whether multipliers may be moved at a node. Under `cc` a set takes so little time that moves cost more than they
-/// save.
-fn may_move(rule: ThieleRule) -> bool {
-    rule != ThieleRule::Cc
 }
 
 /// With fewer seats left than this, counting gains takes less time than counting pairs. Under `cc` pairs rule out too

@@ -3,25 +3,24 @@ ghost use Rattle.std.specs.Prelude.{◌≡◌, ◌≤◌, IfOk};
 ghost use Rattle.ballot_base.specs.Clones.{clones_among};
 ghost use Rattle.ballot_base.specs.Lists.{IsIncreasing};
 ghost use Rattle.ballot_base.specs.Limits.{most_members};
-ghost use Rattle.tie_walk.specs.Values.{thiele_of};
+ghost use Rattle.tie_walk.specs.Values.{tally_value, thiele_of};
 ghost use Rattle.tie_walk.specs.Winners.{best_value};
 ghost use Rattle.tie_walk.specs.Ceilings.{ceiling};
-ghost use Rattle.tie_walk.specs.Values.{tally_value};
 ghost use Rattle.thiele_search.specs.Steps.Aided.{IsAided};
 
 use crate::columns::Columns;
 use crate::dominance::Dominance;
-use crate::search::{Aids, round_of};
+use crate::search::Aids;
 use crate::trials::Uses;
 use ballot_base::{CandSet, Clones, Profile, ThieleRule};
+use row_bounds::multipliers::Multipliers;
+use row_bounds::{Moves, Node};
 use std::alloc::{AllocError, Allocator, Global};
 use std::cell::Cell;
 use std::marker::Model;
-use row_bounds::multipliers::Multipliers;
-use row_bounds::{Moves, Node};
 use thiele_bounds::majorant::{HitSums, PAIR_UNITS};
 use thiele_bounds::prices::Priced;
-use tie_search::{Searchable, Tied, descent};
+use tie_search::{Searchable, Tied, WithClones, descent};
 use tie_walk::{Tally, ThieleTally};
 
 /// All memory for a search among the committees of `k` under a Thiele rule, and the columns in it. Contracts see the
@@ -125,57 +124,25 @@ impl<'a, A: Allocator + Copy + Drop> ThieleSearch<'a, A> {
             values,
             good: CandSet::empty(),
             counts_pairs: Cell::new(false),
-            moves: Moves::new(round_of(profile.rows())),
+            // A visit passes over blocks of voters, and takes less than a round over the rows.
+            moves: Moves::new(profile.rows().div_ceil(32) as u64),
         };
-        let grown = search.grown(k);
-        let priced = Priced::of(multipliers, profile, &search.values, k, grown);
+        let good = search.grown(k);
+        let priced = Priced::of(multipliers, profile, &search.values, k, good);
         let aids = search.aids;
-        let search = ThieleSearch {
+        let mut search = ThieleSearch {
             aids: Aids { priced, ..aids },
+            good,
             ..search
         };
-        let good = search.better(grown);
-        ThieleSearch { good, ..search }
-    }
-}
-
-impl<'a, A: Allocator + Copy> ThieleSearch<'a, A> {
-    fn good_value(&self, k: u8) -> u128
-        requires some { 1 ≤ k }
-        requires fits { k ≤ self.now.election.m }
-        ensures { result ≤ best_value (tally_value self.now) self.now.election.m k }
-    {
-        match self.good_committee(k) {
-            Some(committee) => self.value(committee),
-            None => 0,
+        if let Some(priced) = &search.aids.priced {
+            // The candidates with the highest prices may become a better committee.
+            let other = search.exchanged(priced.dearest);
+            if other.len() == k && search.value(other) > search.value(good) {
+                search.good = other;
+            }
         }
-    }
-
-    /// Whether prices show under `cc` that the good committee is the best. Hundreds may tie with it, and then winners
-    /// come sooner one by one: with 64 popular candidates and 20 seats, the first came after 0.01 s and not up to 5 s.
-    fn is_good_best(&self) -> bool {
-        if self.values.rule() != ThieleRule::Cc {
-            return false;
-        }
-        match &self.aids.priced {
-            Some(priced) => priced.show_best,
-            None => false,
-        }
-    }
-
-    /// `grown`, or a better committee, by exchanges from the candidates with the highest prices.
-    fn better(&self, grown: CandSet) -> CandSet
-        requires { IsIncreasing 1 self.now.election.m grown }
-    {
-        let Some(priced) = &self.aids.priced else {
-            return grown;
-        };
-        let other = self.exchanged(priced.dearest);
-        if other.len() == priced.k && self.value(other) > self.value(grown) {
-            other
-        } else {
-            grown
-        }
+        search
     }
 }
 
@@ -200,20 +167,19 @@ impl<'a, A: Allocator + Copy> Tally for ThieleSearch<'a, A> {
 
     fn good_committee(&self, k: u8) -> Option<CandSet> {
         let committee = CandSet::all(self.values.m()).common(self.good);
-        if committee.len() != k {
-            return None;
-        }
-        Some(committee)
+        (committee.len() == k).then_some(committee)
     }
 }
 
-impl<'a, A: Allocator + Copy> Searchable for ThieleSearch<'a, A> {
+impl<'a, A: Allocator + Copy> WithClones for ThieleSearch<'a, A> {
     ghost class_of = { λ tally c. clones_among tally.election.m tally.election.rows c };
 
     fn clones(&self) -> &Clones {
         &self.aids.clones
     }
+}
 
+impl<'a, A: Allocator + Copy> Searchable for ThieleSearch<'a, A> {
     fn find(&self, node: &Node, least: u128) -> Option<CandSet> {
         // One winner after another is asked for, and most of these searches end after a few sets. With pairs, some
         // party lists took six times as long.
@@ -222,12 +188,24 @@ impl<'a, A: Allocator + Copy> Searchable for ThieleSearch<'a, A> {
     }
 
     fn tied(&self, k: u8) -> Option<Tied> {
-        if self.is_good_best() {
+        // If prices show under `cc` that the good committee is the best, hundreds may tie with it. Then winners come
+        // sooner one by one: with 64 popular candidates and 20 seats, the first came after 0.01 s and not up to 5 s.
+        let is_cc = self.values.rule() == ThieleRule::Cc;
+        if is_cc && matches!(&self.aids.priced, Some(priced) if priced.show_best) {
             return None;
         }
         // All winners took two to three times as long when each was searched for.
-        let all = self.node(CandSet::empty(), CandSet::all(self.m()), k);
+        let all = Node {
+            set: CandSet::empty(),
+            value: self.value(CandSet::empty()),
+            free: CandSet::all(self.m()),
+            left: k,
+        };
         self.counts_pairs.set(true);
-        Some(descent::list_tied(self, all, self.good_value(k)))
+        let least = match self.good_committee(k) {
+            Some(committee) => self.value(committee),
+            None => 0,
+        };
+        Some(descent::list_tied(self, all, least))
     }
 }

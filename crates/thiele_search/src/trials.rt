@@ -1,9 +1,11 @@
 //! Which tests of a set are worth making.
 //!
 //! Three tests may give up a set: how many voters its free candidates cover, prices of the whole election, and pairs.
-//! Which of them help depends on the ballots: prices shorten an election among neighbours, and seldom a random one. So a
-//! search counts how often each test gave up a set. Any test may be left out, so nothing is proved of these counts.
+//! Which of them help depends on the ballots: prices shorten an election among neighbours, and seldom a random one. So
+//! a search counts how often each test gave up a set. Any test may be left out, so nothing is proved of these counts.
+ghost use Rattle.std.specs.Prelude.{◌≡◌};
 
+use ballot_base::CandSet;
 use std::cell::Cell;
 
 /// With more seats left than this, the quick tests are always made: whole branches depend on them. Without prices,
@@ -91,13 +93,16 @@ impl Trials {
         self.sets.set(self.sets.get().saturating_add(1));
     }
 
-    pub(crate) fn note(&self, given_up: bool) {
+    /// Notes the answer of the test, and returns it.
+    pub(crate) fn note(&self, answer: Option<CandSet>) -> Option<CandSet>
+        ensures { result ≡ answer }
+    {
         self.pass();
         let trials = self.trials.get();
-        self.trials.set(if given_up {
-            MOST_TRIALS.min(trials.saturating_add(TRIALS_FOR_HELP))
-        } else {
-            trials.saturating_sub(1)
+        self.trials.set(match answer {
+            Some(_) => trials.saturating_sub(1),
+            None => MOST_TRIALS.min(trials.saturating_add(TRIALS_FOR_HELP)),
         });
+        answer
     }
 }

@@ -52,14 +52,6 @@ pub record AreNothing (kept : ℕ) (worths table : List ℕ) : Type 0 where
   pub worths_none : (n : ℕ) → slice_index worths n ≡ 0
   pub overlaps_none : (i j : ℕ) → overlap_at table i j ≡ 0
 
--- no total is too large, and no candidate overlaps more with another than with itself
-pub record AreSmall (kept : ℕ) (worths table : List ℕ) : Type 0 where
-  pub kept_small : kept ≤ 2 ^ 71
-  pub worths_small : (n : ℕ) → slice_index worths n ≤ 2 ^ 66
-  pub overlaps_small : (i j : ℕ) → j ≤ most_candidates → overlap_at table i j ≤ 2 ^ 58
-  pub overlaps_self : (i j : ℕ) → i ≤ most_candidates → j ≤ most_candidates
-      → overlap_at table i j ≤ overlap_at table i i
-
 -- the row sum of a candidate, by some threshold
 abbrev pub IsRowSum : List ℕ → List ℕ → List ℕ → ℕ → ℕ → ℕ → ℕ → Type 0
 IsRowSum worths table free left raise i sum =

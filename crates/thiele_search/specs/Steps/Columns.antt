@@ -1,5 +1,5 @@
 -- The ballots of all voters, candidate by candidate, as bits.
-use Rattle.std.specs.Prelude.{ℕ, zero, suc, ◌≡◌, ◌+◌, ◌*◌, ◌<◌, ◌≤◌, ◌==◌, ◌^◌, List, [], ◌∷◌, ◌++◌, length, replicate, slice_index, get_or, min, if◌then◌else◌}
+use Rattle.std.specs.Prelude.{ℕ, zero, suc, true, ◌≡◌, ◌+◌, ◌*◌, ◌<◌, ◌≤◌, ◌==◌, ◌^◌, List, [], ◌∷◌, ◌++◌, length, replicate, slice_index, get_or, min, if◌then◌else◌}
 use Rattle.std.specs.Int.{bit_at}
 use Rattle.ballot_base.specs.Limits.{most_candidates, most_members}
 use Rattle.ballot_base.specs.Lists.{IsIncreasing}
@@ -38,6 +38,11 @@ shared word other = total (λ i. min (bit_at word i) (bit_at other i)) block_vot
 -- what a voter gives for a candidate who joins the set
 abbrev pub given : List ℕ → List ℕ → ℕ → List ℕ → ℕ
 given weights set c ballot = if has_member ballot c then slice_index weights (hits ballot set) else 0
+
+-- to the gains of the free candidates was added what the voters of a block, who have these ballots, give
+abbrev pub AreAdded : List ℕ → List ℕ → List ℕ → (ℕ → List ℕ) → List ℕ → List ℕ → Type 0
+AreAdded weights set free ballot_at before after = (c : ℕ) → has_member free c ≡ true
+    → slice_index after c ≡ slice_index before c + total (λ i. given weights set c (ballot_at i)) block_voters
 
 -- 1 for a ballot that approves a member of the set, and 0 for the others
 abbrev pub approves_some : List ℕ → List ℕ → ℕ

@@ -1,4 +1,4 @@
-use Rattle.std.proofs.Common.{◌≡◌, ℕ, zero, suc, ◌+◌, ◌-◌, ◌==◌, ◌<◌, ◌≤◌, ◌^◌, ◌∙◌, cond, List, sym, ap, arith, get_or}
+use Rattle.std.proofs.Common.{◌≡◌, ℕ, zero, suc, ◌+◌, ◌-◌, ◌==◌, ◌<◌, ◌≤◌, ◌^◌, ◌∙◌, cond, List, ◌∷◌, refl, sym, ap, arith, get_or, replicate}
 use Rattle.std.specs.Int.{bit_at}
 use Rattle.std.proofs.lemmas.Bool.{eq-eqb, ne_eqb}
 use Rattle.std.proofs.lemmas.Nat.Bits.{bit_at-zero, bit_at_ones}
@@ -6,9 +6,14 @@ use Rattle.ballot_base.specs.Limits.{most_candidates}
 use Rattle.ballot_base.specs.Ballots.{hits}
 use Rattle.ballot_base.specs.CandSet.{has_member}
 use Rattle.tie_walk.proofs.Gains.{hits-none}
+use Rattle.tie_walk.proofs.WorthLemmas.{no_total}
 use Rattle.thiele_search.proofs.ColumnLemmas.{hits-first, hit-moves}
 use Rattle.row_bounds.proofs.SearchLemmas.{rest-increasing}
 use Rattle.thiele_search.proofs.columns.by_hits.Goals as goal
+
+others : (j : ℕ) → 1 ≤ j → get_or ((2 ^ 64 - 1) ∷ replicate 64 0) j 0 ≡ 0
+others zero low = absurd (omega (arith, low))
+others (suc j) low = no_total 64 j
 
 begins : (words : List ℕ) (h i all : ℕ) → i < 64 → get_or words 0 0 ≡ 2 ^ 64 - 1 → ((j : ℕ) → 1 ≤ j → get_or words j 0 ≡ 0)
     → bit_at (get_or words h 0) i ≡ cond (all == h + all) 1 0
@@ -27,7 +32,7 @@ loop-member-init c =
     let all = c.into_iter-member-iterator.ensures.into_iter_gives ∙ c.members-member-items.ensures.items in
     rw all record {
       rises = c.members-member-items.ensures.valid;
-      counted = λ ballot_at block h i low within. begins c.no_hits-words.result h i (hits (ballot_at i) c.args.set) within c.no_hits-words.ensures.none c.no_hits-words.ensures.others;
+      counted = λ ballot_at block h i low within. begins ((2 ^ 64 - 1) ∷ replicate 64 0) h i (hits (ballot_at i) c.args.set) within refl others;
       within = λ ballot_at block i. omega arith;
     }
 

@@ -7,4 +7,6 @@ loop-j-init c = record {
   long = refl;
   same = λ i low. absurd (omega (arith, low));
   few = λ i. let e : get_or {A = ℕ} (replicate 40 0) i 0 ≡ 0 = no_total 40 i in omega (arith, e);
+  within = omega arith;
+  none = λ i high low. absurd (omega (arith, low));
 }

@@ -36,13 +36,13 @@ returns-clause-sum g c ballot_at block n in_ =
     let column = get_or c.args.block.now n 0 in
     let levels = c.min-levels.result in
     let part : ℕ = total (λ h. get_or weights h 0 * shared column (get_or c.by_hits-words.result h 0)) levels in
-    let made : get_or c.loop-candidate.gains n 0 + cond (has_member c.loop-candidate.candidate-iterator n) part 0 ≡ get_or c.args.gains.now n 0 + cond (has_member c.args.node.now.free n) part 0 = c.loop-candidate.invariant.made n in
-    let summed : part ≡ total (λ i. given_below weights c.args.node.now.set n levels (ballot_at i)) block_voters =
-    given-sum ballot_at c.args.block.now block weights c.args.node.now.set n c.by_hits-words.result levels levels (c.by_hits-words.ensures ballot_at block) (omega arith) in
-    let whole : total (λ i. given_below weights c.args.node.now.set n levels (ballot_at i)) block_voters ≡ total (λ i. given weights c.args.node.now.set n (ballot_at i)) block_voters =
-    given-whole ballot_at c.args.block.now block weights c.args.node.now.set n levels (λ i high.
-    c.args.self.now.sound.end (hits (ballot_at i) c.args.node.now.set)
-    (omega (arith, high, c.min-levels.ensures, c.len.ensures.count, hits-most 1 most_candidates 1 most_candidates (ballot_at i) c.args.node.now.set (block.rises i) c.len.ensures.valid))) in
+    let made : get_or c.loop-candidate.gains n 0 + cond (has_member c.loop-candidate.candidate-iterator n) part 0 ≡ get_or c.args.gains.now n 0 + cond (has_member c.args.free n) part 0 = c.loop-candidate.invariant.made n in
+    let summed : part ≡ total (λ i. given_below weights c.args.set n levels (ballot_at i)) block_voters =
+    given-sum ballot_at c.args.block.now block weights c.args.set n c.by_hits-words.result levels levels (c.by_hits-words.ensures ballot_at block) (omega arith) in
+    let whole : total (λ i. given_below weights c.args.set n levels (ballot_at i)) block_voters ≡ total (λ i. given weights c.args.set n (ballot_at i)) block_voters =
+    given-whole ballot_at c.args.block.now block weights c.args.set n levels (λ i high.
+    c.args.self.now.sound.end (hits (ballot_at i) c.args.set)
+    (omega (arith, high, c.min-levels.ensures, c.len.ensures.count, hits-most 1 most_candidates 1 most_candidates (ballot_at i) c.args.set (block.rises i) c.len.ensures.valid))) in
     omega (arith, made, summed, whole, ap (λ l. cond (has_member l n) part 0) c.in-None.ensures.steps.0, ap (λ b. cond b part 0) in_)
 
 -- a gain stays small

@@ -10,6 +10,6 @@ abbrev pub invariant-loop-candidate : goal.invariant-loop-candidate
 invariant-loop-candidate g l = record {
   rises : IsIncreasing 1 most_candidates l.candidate-iterator;
   made : (c : ℕ) → get_or l.gains c 0 + cond (has_member l.candidate-iterator c) (l.weight * shared (get_or l.block c 0) l.uncovered) 0
-      ≡ get_or l.fn.gains c 0 + cond (has_member l.fn.node.free c) (l.weight * shared (get_or l.block c 0) l.uncovered) 0;
+      ≡ get_or l.fn.gains c 0 + cond (has_member l.fn.free c) (l.weight * shared (get_or l.block c 0) l.uncovered) 0;
   most : (c : ℕ) → get_or l.gains c 0 ≤ get_or l.fn.gains c 0 + cond (has_member l.candidate-iterator c) 0 (most_members * 2 ^ 50);
 }

@@ -10,4 +10,4 @@ returns-in-Some g c n here =
     let kept : AreColumnsOf tally c.in-Some.columns.blocks.items c.in-Some.columns.weights = rw c.in-Some.is at aids.columns in
     c.gains_of.ensures (voters_of tally.election.rows) kept.columns (voters-rising tally.election.m tally.election.rows aids.election.most aids.election.ballots)
     n here
-    ∙ columns-gain tally c.in-Some.columns.blocks.items c.in-Some.columns.weights c.args.node.now.set n kept
+    ∙ columns-gain tally c.in-Some.columns.blocks.items c.in-Some.columns.weights c.args.set n kept

@@ -13,9 +13,6 @@ rest-among : (g : _) (c : After-without-rest g) → IsIncreasing 1 c.args.self.n
 rest-among g c =
     rw c.without-rest.ensures (IsIncreasing-filter (λ x. not (x == c.args.member)) 1 c.args.self.now.election.m c.args.committee c.requires.candidates)
 
-pub node-requires : goal.node-requires
-node-requires g c = record { candidates = rest-among g (goal.at.node-requires g c).After-without-rest }
-
 pub of-requires : goal.of-requires
 of-requires g c = omega (arith, (next-among g (goal.at.of-requires g c).In-Some).1, (rw c.self.view_is at c.self.invariant.1).election.most)
 

@@ -3,26 +3,22 @@ use Rattle.std.proofs.Math.Nat.{mul-le-mul_left}
 use Rattle.ballot_base.specs.CandSet.{common_members}
 use Rattle.tie_walk.specs.Values.{tally_value}
 use Rattle.row_bounds.proofs.NarrowedLemmas.{narrowed-members}
-use Rattle.thiele_bounds.specs.Steps.Priced.{ArePrices}
 use Rattle.thiele_bounds.proofs.PairBounds.PairLemmas.{sum-less}
 use Rattle.thiele_bounds.proofs.PriceBounds.{all-completed, all-members}
-use Rattle.thiele_search.proofs.thiele.ThieleSearch.priced.Goals as goal
+use Rattle.thiele_bounds.proofs.prices.Priced.narrowed.Goals as goal
 
 pub returns : goal.returns
-returns g c =
-    let tally = c.args.self.now in
+returns g c tally are most is_node =
     let m = tally.election.m in
     let node = c.args.node.now in
-    let aids = rw c.self.view_is at c.self.invariant.1 in
-    let priced = c.in-Some.priced in
-    let are : ArePrices tally priced = rw c.in-Some.is at aids.priced in
+    let priced = c.args.self.now in
     let worth : ℕ → ℕ = λ n. get_or priced.whole.worths n 0 in
-    narrowed-members (tally_value tally) m node.set node.free node.left c.args.least worth c.saturating_sub-due.result aids.election.most c.requires.is_node
+    narrowed-members (tally_value tally) m node.set node.free node.left c.args.least worth c.saturating_sub-due.result most is_node
     (λ committee whole reaches.
     let size : length node.set + node.left ≡ tally.k = omega (arith, are.k_is, c.if-from.false, c.from.ensures, c.from-2.ensures, c.from-3.ensures, c.len.ensures.count) in
     let value : priced.given.scale * c.args.least ≤ priced.given.scale * tally_value tally committee = mul-le-mul_left priced.given.scale reaches in
-    let bound = are.totals committee (all-completed m tally.k node.set node.free node.left committee c.requires.is_node whole size) in
-    let members = all-members m tally.k node.set node.free node.left committee c.requires.is_node whole worth size in
+    let bound = are.totals committee (all-completed m tally.k node.set node.free node.left committee is_node whole size) in
+    let members = all-members m tally.k node.set node.free node.left committee is_node whole worth size in
     omega (
       arith,
       c.saturating_sub-due.ensures,
@@ -31,4 +27,4 @@ returns g c =
       sum-less worth (λ n. get_or priced.whole.worths n 0 - 0) node.set (λ n here. omega arith),
       c.excess.ensures.sum,
     ))
-    c.members_for-affordable.result c.members_for-affordable.ensures
+    c.members_for.result c.members_for.ensures

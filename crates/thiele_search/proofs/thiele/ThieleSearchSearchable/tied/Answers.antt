@@ -1,0 +1,20 @@
+use Rattle.std.proofs.Common.{arith}
+use Rattle.ballot_base.proofs.Committees.{increasing_lists-contains}
+use Rattle.tie_walk.proofs.LawLemmas.{no_greater_value}
+use Rattle.tie_walk.specs.Values.{tally_value}
+use Rattle.thiele_search.proofs.thiele.ThieleSearchSearchable.tied.Goals as goal
+use Rattle.thiele_search.proofs.thiele.ThieleSearchSearchable.tied.Goals.{in-Some-good_committee, in-None}
+
+pub list_tied-requires-clause-least : goal.list_tied-requires-clause-least
+list_tied-requires-clause-least g c =
+    let tally = c.args.self.now in
+    elim c.match-good_committee.branch [
+      | in-Some-good_committee w ↦ omega (
+        arith,
+        w.least-is,
+        w.value-least.ensures,
+        no_greater_value (tally_value tally) tally.election.m c.args.k w.in-Some-good_committee.committee
+            (increasing_lists-contains 1 tally.election.m c.args.k w.in-Some-good_committee.committee w.in-Some-good_committee.ensures),
+      )
+      | in-None w ↦ omega (arith, w.least-is)
+    ]
