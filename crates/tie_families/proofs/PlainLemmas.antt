@@ -1,7 +1,6 @@
 -- Families without clones: where each has k members, they are the winners.
 use Rattle.std.proofs.lemmas.Grind.{common_steps}
-use Rattle.std.proofs.Common.{◌≡◌, ℕ, ◌<◌, ◌≤◌, ◌==◌, ◌&&◌, ◌∙◌, true, List, [], ◌∷◌, sym, ap, subst, arith, length, get_or, Contains, Option, None, Some}
-use Rattle.std.specs.Prelude.{All, MatchOption, ⊤}
+use Rattle.std.proofs.Common.{◌≡◌, ℕ, ◌<◌, ◌≤◌, ◌==◌, ◌&&◌, ◌∙◌, true, List, [], ◌∷◌, sym, ap, subst, arith, length, get_or, Contains}
 use Rattle.std.specs.List.{list_all, list_any, range_with_len, zip, AllByRecursion}
 use Rattle.std.proofs.lemmas.Bool.{cases_eq, eqb-true, and_parts, and_from}
 use Rattle.std.proofs.lemmas.Cmp.{nat_list_cmp_total}
@@ -14,7 +13,6 @@ use Rattle.ballot_base.proofs.Committees.{increasing_lists-contains, chosen-from
 use Rattle.ballot_base.proofs.Increasing.{has_member-filter, has_member_tail, same_increasing}
 use Rattle.ballot_base.proofs.Later.{sorted_from_later}
 use Rattle.tie_walk.specs.Sequences.{is_sequential_winner, sequential_winners}
-use Rattle.tie_walk.specs.Winners.{IsStart}
 use Rattle.tie_walk.specs.declared.sequential.SeqRule.{SeqRule}
 use Rattle.tie_walk.proofs.LawLemmas.{Contains-from_filter, passes-from_filter, Contains-filter}
 use Rattle.tie_walk.proofs.LevelLemmas.{in_bounds}
@@ -101,9 +99,3 @@ plain-winners rule e k m table leasts mosts list is same families clones apart' 
         pairs-pass (λ family. is_between e.m e.rows family.0 family.1 set) leasts mosts i set most within within'
         (λ d. sym is ∙ get_or_default leasts i set d within) (λ d. get_or_default mosts i [] d within')
         (and_from (has_as_many e.m e.rows set set) (has_as_many e.m e.rows most set) (many-from e.m e.rows set set (λ c. omega arith)) spans)
-
--- a start has the size of the winners
-pub starts-fit : (m k : ℕ) (after : Option (List ℕ)) (sets : List (List ℕ)) → IsStart m k after → All (λ set. length set ≡ k) sets
-    → MatchOption after ⊤ (λ start. All (λ set. length set ≡ length start) sets)
-starts-fit m k None sets start sizes = tt
-starts-fit m k (Some set) sets start sizes = subst (λ n. All (λ s. length s ≡ n) sets) (sym start.1) sizes

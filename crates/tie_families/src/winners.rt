@@ -1,7 +1,7 @@
 //! The winners of a sequential rule, one by one.
-ghost use Rattle.std.specs.Prelude.{◌≡◌, ◌≤◌, ℕ, List, All, MatchOption, ⊤, drop, length};
+ghost use Rattle.std.specs.Prelude.{◌≡◌, ℕ, List};
 ghost use Rattle.std.specs.Iterator.{YieldsFirst, item_count};
-ghost use Rattle.ballot_base.specs.Lists.{AreInOrder, later_than};
+ghost use Rattle.ballot_base.specs.Lists.{later_than};
 ghost use Rattle.tie_walk.specs.Sequences.{sequential_winners};
 ghost use Rattle.tie_walk.specs.Winners.{IsStart};
 
@@ -44,7 +44,7 @@ impl<'a, A: Allocator + Copy> FamilyWinners<'a, A> {
         if let Some(sets) = families.in_order() {
             return FamilyWinners {
                 sorted: sets,
-                place: place_after(sets, after),
+                place: first_later(sets, after),
                 walk: None,
             };
         }
@@ -54,18 +54,6 @@ impl<'a, A: Allocator + Copy> FamilyWinners<'a, A> {
             place: 0,
             walk: Some(Winners::new(families, m, k, after)),
         }
-    }
-}
-
-/// The place of the first set that is later than the start, among sets of its size in lexicographic order.
-fn place_after(sets: &[CandSet], after: Option<CandSet>) -> usize
-    requires order { AreInOrder sets.now }
-    requires sizes { MatchOption after ⊤ (λ start. All (λ set. length set ≡ length start) sets.now) }
-    ensures { drop result sets.now ≡ later_than after sets.now }
-{
-    match after {
-        Some(start) => first_later(sets, start),
-        None => 0,
     }
 }
 

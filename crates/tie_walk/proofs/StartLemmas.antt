@@ -1,6 +1,7 @@
 -- Walks from a start.
 use Rattle.std.proofs.lemmas.Grind.{common_steps}
 use Rattle.std.proofs.Common.{◌≡◌, ℕ, zero, suc, ◌<◌, ◌≤◌, Bool, true, false, List, [], ◌∷◌, ◌++◌, refl, sym, ap, ◌∙◌, subst, arith, inl, inr, length, filter, drop, get_or, All, Option, None, Some, Ordering, Less, Equal, Greater}
+use Rattle.std.specs.Prelude.{MatchOption, ⊤}
 use Rattle.std.specs.List.{AllByRecursion}
 use Rattle.std.specs.List.Sorted.{IsPartitionedBy, IsPartitionPoint}
 use Rattle.std.specs.Cmp.Lexicographic.{slice_cmp}
@@ -8,6 +9,7 @@ use Rattle.std.specs.Ordering.{nat_cmp, is_gt, is_le}
 use Rattle.std.proofs.lemmas.Bool.{cases_Bool, cases_eq, and_from, and_parts, eq-eqb, false≢true}
 use Rattle.ballot_base.specs.Lists.{is_later, IsLater, AreInOrder, later_than}
 use Rattle.ballot_base.proofs.Later.{IsLater-trans, later_than-member}
+use Rattle.tie_walk.specs.Winners.{IsStart}
 
 -- ---- two tests, one after the other
 pub filter-swap : {X : Type 0} (p q : X → Bool) (xs : List X) → filter p (filter q xs) ≡ filter q (filter p xs)
@@ -79,3 +81,9 @@ later-at_point sets start i sizes point =
     filter-from (λ set. is_later set start) sets i
     (λ k d low inside. earlier-from (get_or sets k d) start (point.0 k d (omega arith) low))
     (λ k d low inside. later-from (get_or sets k d) start (sizes k d inside) (point.1 k d low inside))
+
+-- a start has the size of the winners
+pub starts-fit : (m k : ℕ) (after : Option (List ℕ)) (sets : List (List ℕ)) → IsStart m k after → All (λ set. length set ≡ k) sets
+    → MatchOption after ⊤ (λ start. All (λ set. length set ≡ length start) sets)
+starts-fit m k None sets start sizes = tt
+starts-fit m k (Some set) sets start sizes = subst (λ n. All (λ s. length s ≡ n) sets) (sym start.1) sizes

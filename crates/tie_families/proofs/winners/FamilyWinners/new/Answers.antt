@@ -4,16 +4,16 @@ use Rattle.tie_walk.specs.Winners.{winners}
 use Rattle.tie_walk.proofs.SequenceLaws.{sequential-later, sequential-sizes}
 use Rattle.tie_families.specs.Families.{Sequential, is_winner}
 use Rattle.tie_families.proofs.ExistLemmas.{winners-are}
-use Rattle.tie_families.proofs.PlainLemmas.{starts-fit}
+use Rattle.tie_walk.proofs.StartLemmas.{starts-fit}
 use Rattle.tie_families.proofs.winners.FamilyWinners.new.Goals as goal
 
-pub place_after-requires-clause-order : goal.place_after-requires-clause-order
-place_after-requires-clause-order g c =
+pub first_later-requires-clause-order : goal.first_later-requires-clause-order
+first_later-requires-clause-order g c =
     let s : Sequential = c.args.families.now in
     subst AreInOrder (sym c.in-Some.ensures) (sequential-later s.rule s.election s.k)
 
-pub place_after-requires-clause-sizes : goal.place_after-requires-clause-sizes
-place_after-requires-clause-sizes g c =
+pub first_later-requires-clause-sizes : goal.first_later-requires-clause-sizes
+first_later-requires-clause-sizes g c =
     let s : Sequential = c.args.families.now in
     starts-fit s.election.m s.k c.args.after c.in-Some.sets.now c.requires (subst (λ l. All (λ set. length set ≡ s.k) l) (sym c.in-Some.ensures) (sequential-sizes s.rule s.election s.k))
 
