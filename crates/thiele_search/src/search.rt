@@ -28,9 +28,7 @@ use ballot_base::{CandSet, Clones, ThieleRule, Worths};
 use row_bounds::Node;
 use row_bounds::multipliers::Effort;
 use std::alloc::Allocator;
-use thiele_bounds::majorant::HitSums;
-use thiele_bounds::pairs;
-use thiele_bounds::prices::{AGAIN, NODE, Priced};
+use thiele_bounds::{AGAIN, HitSums, NODE, Priced, pairs};
 use tie_search::descent::{Narrowing, Plan};
 use tie_walk::Tally;
 
@@ -101,8 +99,12 @@ impl<'a, A: Allocator + Copy> ThieleSearch<'a, A> {
         if !uses.are_due() && node.left <= FEW_SEATS {
             return Some(node.free);
         }
-        let suffices = self.most_covered(node.set.union(node.free)) >= least;
-        uses.note(suffices.then_some(node.free))
+        let set = node.set.union(node.free);
+        let most = match &self.aids.columns {
+            Some(columns) => columns.covered(set) as u128,
+            None => self.values.value(set),
+        };
+        uses.note((most >= least).then_some(node.free))
     }
 
     /// Like `eligible`, but by the prices of the whole election, if they are kept and worth asking for.
@@ -149,27 +151,9 @@ impl<'a, A: Allocator + Copy> ThieleSearch<'a, A> {
             None => self.values.gains(set, free),
         }
     }
-
-    /// An upper bound on the value of the set under `cc`: the number of voters who approve a member.
-    fn most_covered(&self, set: CandSet) -> u128
-        requires rule { self.now.rule ≡ ThieleRule.Cc }
-        requires candidates { IsIncreasing 1 self.now.election.m set }
-        ensures { tally_value self.now set ≤ result }
-    {
-        match &self.aids.columns {
-            Some(columns) => columns.covered(set) as u128,
-            None => self.values.value(set),
-        }
-    }
 }
 
 impl<'a, A: Allocator + Copy> Narrowing for ThieleSearch<'a, A> {
-    ghost use Rattle.std.specs.Prelude.{◌≡◌, ℕ, true, slice_index};
-    ghost use Rattle.ballot_base.specs.CandSet.{has_member};
-    ghost use Rattle.ballot_base.specs.Increments.{increments};
-    ghost use Rattle.tie_walk.specs.Sequences.{gain};
-    ghost use Rattle.thiele_search.specs.Steps.Aided.{IsValued};
-
     ghost is_valued = { λ tally set value. IsValued tally set value };
 
     ghost is_plan = { λ tally set left plan. (n : ℕ) → has_member plan.eligible n ≡ true
