@@ -8,3 +8,6 @@ pub mod laws;
 pub mod majorant;
 pub mod pairs;
 pub mod prices;
+
+pub use majorant::{HitSums, PAIR_UNITS};
+pub use prices::{AGAIN, NODE, Priced};

@@ -144,7 +144,10 @@ impl Majorant {
             0
         };
         let rise = sums[first + usize::from(most)].saturating_sub(sums[at]);
-        let overlap = bend(step, rise, u64::from(most - touch));
+        // How much an increment falls by, in half a step, if the first is `step` and all of the run rise by `rise`.
+        let run = u64::from(most - touch);
+        let fall = (step * run).saturating_sub(rise) / (run * run.saturating_sub(1)).max(1);
+        let overlap = fall.min(step);
         let worth = step + overlap * (2 * u64::from(touch) + 1);
         let mut kept = 0;
         for hits in 0..usize::from(most) + 1 {
@@ -157,19 +160,6 @@ impl Majorant {
             overlap,
         }
     }
-}
-
-/// How much an increment falls by, in half a step, if the first is `step` and all `run` of them rise by `rise`.
-fn bend(step: u64, rise: u64, run: u64) -> u64
-    requires small { step ≤ most_given_to_pairs }
-    requires run { run ≤ most_candidates }
-    ensures { result ≤ step }
-{
-    if run < 2 {
-        return 0;
-    }
-    let fall = (step * run).saturating_sub(rise) / (run * (run - 1));
-    fall.min(step)
 }
 
 /// A table of majorants has places for fewer hits before than this.

@@ -26,16 +26,6 @@ const TABLE_PLACES: usize = 2145;
 /// pairs with the candidates up to it, and comes after the rows of all candidates before it.
 type Table = [u64; TABLE_PLACES];
 
-/// What a search looks for by pairs: the ballots, what hits give, and the value that a committee has to reach.
-#[derive(Drop)]
-pub struct PairSearch<'a, A: Allocator + Copy> {
-    pub profile: &'a Profile<A>,
-    pub given: &'a HitSums,
-    pub least: u128,
-    ghost size: { profile.now.m ≤ most_candidates },
-    ghost small: { (n : ℕ) → slice_index given.now.sums n ≤ most_given_to_pairs },
-}
-
 /// The majorants of all voters, added up.
 #[derive(Drop)]
 struct Totals {
@@ -46,56 +36,66 @@ struct Totals {
     overlaps: Table,
 }
 
-impl<A: Allocator + Copy> PairSearch<'_, A> {
-    /// The free candidates of a node that can still join. Returns `None` only if no completion of its set reaches the
-    /// value. Counts are not kept for later nodes: when they were, long lists of ties took a quarter more instructions.
-    pub fn narrowed(&self, node: &Node) -> Option<CandSet>
-        requires is_node { IsNode self.now.profile.now.m node.now.set node.now.free }
-        requires several { 2 ≤ node.now.left }
-        ensures { NarrowsUnder self.now.given.now self.now.profile.now node.now self.now.least result }
-    {
-        if node.free.len() < node.left {
-            return None;
-        }
-        let mut totals = Totals {
-            kept: 0,
-            worths: Worths::none(),
-            overlaps: [0; TABLE_PLACES],
-        };
-        self.add_ballots(&mut totals, node);
-        let (free, left) = (node.free, node.left);
-        let factor = 2 * u128::from(left - 1);
-        let raise = factor * u128::from(totals.greatest_overlap());
-        let rows = Rows {
-            totals: &totals,
-            free,
-            left,
-            raise,
-        };
-        let due = self
-            .given
-            .units(self.least)
-            .saturating_mul(factor)
-            .saturating_add(u128::from(left) * u128::from(left) * raise);
-        rows.sums()
-            .members_for(free, left, due.saturating_sub(factor * totals.kept))
+/// The free candidates of a node that can still join, if a committee has to reach the value `least`. Returns `None` only
+/// if no completion of its set does. Counts are not kept for later nodes: when they were, long lists of ties took a
+/// quarter more instructions.
+pub fn narrowed<A: Allocator + Copy>(
+    profile: &Profile<A>,
+    given: &HitSums,
+    node: &Node,
+    least: u128,
+) -> Option<CandSet>
+    requires size { profile.now.m ≤ most_candidates }
+    requires small { (n : ℕ) → slice_index given.now.sums n ≤ most_given_to_pairs }
+    requires is_node { IsNode profile.now.m node.now.set node.now.free }
+    requires several { 2 ≤ node.now.left }
+    ensures { NarrowsUnder given.now profile.now node.now least result }
+{
+    if node.free.len() < node.left {
+        return None;
     }
+    let mut totals = Totals {
+        kept: 0,
+        worths: Worths::none(),
+        overlaps: [0; TABLE_PLACES],
+    };
+    add_ballots(&mut totals, profile, given, node);
+    let (free, left) = (node.free, node.left);
+    let factor = 2 * u128::from(left - 1);
+    let raise = factor * u128::from(totals.greatest_overlap());
+    let rows = Rows {
+        totals: &totals,
+        free,
+        left,
+        raise,
+    };
+    let due = given
+        .units(least)
+        .saturating_mul(factor)
+        .saturating_add(u128::from(left) * u128::from(left) * raise);
+    rows.sums()
+        .members_for(free, left, due.saturating_sub(factor * totals.kept))
+}
 
-    fn add_ballots(&self, totals: &mut Totals, node: &Node)
-        requires is_node { IsNode self.now.profile.now.m node.now.set node.now.free }
-        requires some { 1 ≤ length node.now.free }
-        requires nothing { AreNothing totals.old.kept totals.old.worths totals.old.overlaps }
-        ensures totals { BoundNode self.now.given.now self.now.profile.now node.now totals.new.kept totals.new.worths
-            totals.new.overlaps }
-        ensures small { AreSmall totals.new }
-    {
-        let mut majorants = Majorants::new(&self.given.sums, node.left, node.free.len());
-        for (ballot, voters) in self.profile.ballots() {
-            let approved = ballot.common(node.free);
-            let before = ballot.common(node.set).len();
-            let majorant = majorants.of_ballot(before, approved.len());
-            totals.add(majorant, approved, voters);
-        }
+fn add_ballots<A: Allocator + Copy>(
+    totals: &mut Totals,
+    profile: &Profile<A>,
+    given: &HitSums,
+    node: &Node,
+)
+    requires small { (n : ℕ) → slice_index given.now.sums n ≤ most_given_to_pairs }
+    requires is_node { IsNode profile.now.m node.now.set node.now.free }
+    requires some { 1 ≤ length node.now.free }
+    requires nothing { AreNothing totals.old.kept totals.old.worths totals.old.overlaps }
+    ensures totals { BoundNode given.now profile.now node.now totals.new.kept totals.new.worths totals.new.overlaps }
+    ensures small { AreSmall totals.new }
+{
+    let mut majorants = Majorants::new(&given.sums, node.left, node.free.len());
+    for (ballot, voters) in profile.ballots() {
+        let approved = ballot.common(node.free);
+        let before = ballot.common(node.set).len();
+        let majorant = majorants.of_ballot(before, approved.len());
+        totals.add(majorant, approved, voters);
     }
 }
 

@@ -128,8 +128,6 @@ impl<A: Allocator + Copy> PriceSearch<'_, A> {
 }
 
 impl<A: Allocator + Copy> RowBound for PriceSearch<'_, A> {
-    ghost use Rattle.tie_walk.specs.Values.{tally_value};
-
     ghost candidates = { λ search. search.profile.now.m };
 
     ghost value_of = { λ search set. tally_value search.tally.now set };

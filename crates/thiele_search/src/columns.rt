@@ -115,15 +115,6 @@ fn add_row(blocks: &mut [Block], voters: usize, ballot: CandSet, count: usize)
     }
 }
 
-fn no_voters<A: Allocator + Drop>(alloc: A, voters: usize) -> Result<Vec<Block, A>, AllocError>
-    requires { voters ≤ most_blocks * block_voters }
-    ensures few { IfOk result (λ blocks. length blocks.items ≤ most_blocks) }
-    ensures all { IfOk result (λ blocks. voters ≤ length blocks.items * block_voters) }
-    ensures none { IfOk result (λ blocks. AreColumns [] blocks.items) }
-{
-    vec![in alloc; [0; PLACES]; voters.div_ceil(BLOCK_VOTERS)]
-}
-
 fn blocks_of<A: Allocator + Copy + Drop>(
     alloc: A,
     profile: &Profile<A>,
@@ -133,7 +124,8 @@ fn blocks_of<A: Allocator + Copy + Drop>(
     ensures all { IfOk result (λ blocks. voter_count profile.now.rows ≤ length blocks.items * block_voters) }
     ensures columns { IfOk result (λ blocks. AreColumns (voters_of profile.now.rows) blocks.items) }
 {
-    let mut blocks = no_voters(alloc, profile.voters() as usize)?;
+    let most = (profile.voters() as usize).div_ceil(BLOCK_VOTERS);
+    let mut blocks = vec![in alloc; [0; PLACES]; most]?;
     let mut voters = 0;
     for (ballot, count) in profile.ballots() {
         let count = count as usize;

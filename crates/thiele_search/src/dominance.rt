@@ -23,7 +23,7 @@ pub(crate) struct Dominance {
 
 impl Dominance {
     /// Returns `None` if some hit adds nothing, as the second one does under `cc`.
-    pub(crate) fn of<A: Allocator + Copy>(
+    pub fn of<A: Allocator + Copy>(
         profile: &Profile<A>,
         rule: ThieleRule,
         k: u8,

@@ -28,9 +28,7 @@ use ballot_base::{CandSet, Clones, ThieleRule, Worths};
 use row_bounds::Node;
 use row_bounds::multipliers::Effort;
 use std::alloc::Allocator;
-use thiele_bounds::majorant::HitSums;
-use thiele_bounds::pairs::PairSearch;
-use thiele_bounds::prices::{AGAIN, NODE, Priced};
+use thiele_bounds::{AGAIN, HitSums, NODE, Priced, pairs};
 use tie_search::descent::{Narrowing, Plan};
 use tie_walk::Tally;
 
@@ -67,9 +65,6 @@ impl<'a, A: Allocator + Copy> ThieleSearch<'a, A> {
     {
         self.covered(node, least)?;
         let free = self.priced(node, least)?;
-        // Counting pairs takes about as long as a round over the rows.
-        let rounds = u32::from(self.sees_pairs(node.left));
-        self.moves.work(rounds);
         let free = self.pair_narrowed(&Node { free, ..*node }, least)?;
         self.moved(&Node { free, ..*node }, least, effort)
     }
@@ -79,14 +74,14 @@ impl<'a, A: Allocator + Copy> ThieleSearch<'a, A> {
         requires is_node { IsNode self.now.election.m node.now.set node.now.free }
         ensures { Narrows (tally_value self.now) self.now.election.m node.now least result }
     {
+        // Under `cc` a set takes so little time that moves cost more than they save.
+        let is_due = self.values.rule() != ThieleRule::Cc && self.moves.are_due(node.left);
         match &self.aids.priced {
-            // Under `cc` a set takes so little time that moves cost more than they save.
-            Some(priced) if self.values.rule() != ThieleRule::Cc && self.moves.are_due(node.left) =>
-                {
-                    let moved = priced.moved(self.profile, &self.values, node, least, effort);
-                    self.moves.note(node, &moved);
-                    moved.free
-                }
+            Some(priced) if is_due => {
+                let moved = priced.moved(self.profile, &self.values, node, least, effort);
+                self.moves.note(node, &moved);
+                moved.free
+            }
             _ => Some(node.free),
         }
     }
@@ -101,12 +96,15 @@ impl<'a, A: Allocator + Copy> ThieleSearch<'a, A> {
             return Some(node.free);
         }
         let uses = &self.aids.uses.cover;
-        if node.left <= FEW_SEATS && !uses.are_due() {
-            uses.pass();
+        if !uses.are_due() && node.left <= FEW_SEATS {
             return Some(node.free);
         }
-        let suffices = self.most_covered(node.set.union(node.free)) >= least;
-        uses.note(suffices.then_some(node.free))
+        let set = node.set.union(node.free);
+        let most = match &self.aids.columns {
+            Some(columns) => columns.covered(set) as u128,
+            None => self.values.value(set),
+        };
+        uses.note((most >= least).then_some(node.free))
     }
 
     /// Like `eligible`, but by the prices of the whole election, if they are kept and worth asking for.
@@ -115,27 +113,15 @@ impl<'a, A: Allocator + Copy> ThieleSearch<'a, A> {
         ensures { Narrows (tally_value self.now) self.now.election.m node.now least result }
     {
         let uses = &self.aids.uses.prices;
+        let is_due = uses.are_due() || node.left > FEW_SEATS;
         match &self.aids.priced {
-            Some(priced) if node.left > FEW_SEATS || uses.are_due() => {
-                uses.note(priced.narrowed(node, least))
-            }
-            _ => {
-                uses.pass();
-                Some(node.free)
-            }
+            Some(priced) if is_due => uses.note(priced.narrowed(node, least)),
+            _ => Some(node.free),
         }
     }
 
-    /// Whether pairs are worth counting: in a long search, if enough seats are left and pairs help.
-    fn sees_pairs(&self, left: u8) -> bool
-        ensures { IsTrue result → 2 ≤ left }
-    {
-        self.counts_pairs.get()
-            && left >= fewest_seats(self.values.rule())
-            && self.aids.uses.pairs.are_due()
-    }
-
-    /// Like `eligible`, but by pairs, if they are worth counting.
+    /// Like `eligible`, but by pairs, if they are worth counting: in a long search, if enough seats are left and pairs
+    /// help.
     // Not inlined: its tables take 28 KB of stack, which would lie beside the moving of multipliers.
     #[inline(never)]
     fn pair_narrowed(&self, node: &Node, least: u128) -> Option<CandSet>
@@ -143,20 +129,15 @@ impl<'a, A: Allocator + Copy> ThieleSearch<'a, A> {
         ensures { Narrows (tally_value self.now) self.now.election.m node.now least result }
     {
         let uses = &self.aids.uses.pairs;
+        let is_long = uses.are_due() && self.counts_pairs.get();
+        let is_due = is_long && node.left >= fewest_seats(self.values.rule());
+        // Counting pairs takes about as long as a round over the rows.
+        self.moves.work(u32::from(is_due));
         match &self.aids.sums {
-            Some(given) if self.sees_pairs(node.left) => {
-                let profile = self.profile;
-                let pairs = PairSearch {
-                    profile,
-                    given,
-                    least,
-                };
-                uses.note(pairs.narrowed(node))
+            Some(given) if is_due => {
+                uses.note(pairs::narrowed(self.profile, given, node, least))
             }
-            _ => {
-                uses.pass();
-                Some(node.free)
-            }
+            _ => Some(node.free),
         }
     }
 
@@ -170,27 +151,9 @@ impl<'a, A: Allocator + Copy> ThieleSearch<'a, A> {
             None => self.values.gains(set, free),
         }
     }
-
-    /// An upper bound on the value of the set under `cc`: the number of voters who approve a member.
-    fn most_covered(&self, set: CandSet) -> u128
-        requires rule { self.now.rule ≡ ThieleRule.Cc }
-        requires candidates { IsIncreasing 1 self.now.election.m set }
-        ensures { tally_value self.now set ≤ result }
-    {
-        match &self.aids.columns {
-            Some(columns) => columns.covered(set) as u128,
-            None => self.values.value(set),
-        }
-    }
 }
 
 impl<'a, A: Allocator + Copy> Narrowing for ThieleSearch<'a, A> {
-    ghost use Rattle.std.specs.Prelude.{◌≡◌, ℕ, true, slice_index};
-    ghost use Rattle.ballot_base.specs.CandSet.{has_member};
-    ghost use Rattle.ballot_base.specs.Increments.{increments};
-    ghost use Rattle.tie_walk.specs.Sequences.{gain};
-    ghost use Rattle.thiele_search.specs.Steps.Aided.{IsValued};
-
     ghost is_valued = { λ tally set value. IsValued tally set value };
 
     ghost is_plan = { λ tally set left plan. (n : ℕ) → has_member plan.eligible n ≡ true

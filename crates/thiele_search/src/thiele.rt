@@ -18,8 +18,7 @@ use row_bounds::{Moves, Node};
 use std::alloc::{AllocError, Allocator, Global};
 use std::cell::Cell;
 use std::marker::Model;
-use thiele_bounds::majorant::{HitSums, PAIR_UNITS};
-use thiele_bounds::prices::Priced;
+use thiele_bounds::{HitSums, PAIR_UNITS, Priced};
 use tie_search::{Searchable, Tied, WithClones, descent};
 use tie_walk::{Tally, ThieleTally};
 

@@ -81,23 +81,19 @@ impl Trials {
         }
     }
 
-    /// Whether the search is long enough for the test, and the test helps often enough.
+    /// Counts a set. Returns whether to make the test there: if the search is long enough, and the test helps often
+    /// enough.
     pub(crate) fn are_due(&self) -> bool {
         let sets = self.sets.get();
+        self.sets.set(sets.saturating_add(1));
         sets >= self.limits.begin
             && (self.trials.get() > 0 || sets % self.limits.sample.max(1) == 0)
-    }
-
-    /// Notes that a set was passed without the test.
-    pub(crate) fn pass(&self) {
-        self.sets.set(self.sets.get().saturating_add(1));
     }
 
     /// Notes the answer of the test, and returns it.
     pub(crate) fn note(&self, answer: Option<CandSet>) -> Option<CandSet>
         ensures { result ≡ answer }
     {
-        self.pass();
         let trials = self.trials.get();
         self.trials.set(match answer {
             Some(_) => trials.saturating_sub(1),

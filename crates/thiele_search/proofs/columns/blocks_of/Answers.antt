@@ -1,17 +1,38 @@
-use Rattle.std.proofs.Common.{◌≡◌, ◌∙◌, ◌∷◌, [], ◌++◌, refl, sym, ap, subst, arith, length, take, replicate, length-append}
+use Rattle.std.proofs.Common.{◌≡◌, ℕ, zero, suc, ◌∙◌, List, ◌∷◌, [], ◌++◌, refl, sym, ap, subst, arith, length, take, get_or, replicate, length-append}
+use Rattle.std.specs.Int.{bit_at}
+use Rattle.std.specs.List.{each_same}
 use Rattle.std.specs.Vec.{with_items}
 use Rattle.std.proofs.lemmas.List.{length-replicate, length_push, with_items_is}
+use Rattle.std.proofs.lemmas.Nat.Bits.{bit_at-zero}
+use Rattle.tie_walk.proofs.WorthLemmas.{no_total}
 use Rattle.ballot_base.specs.Ballots.{Row}
 use Rattle.ballot_base.proofs.Turns.{row_of_turn, all_passed}
 use Rattle.thiele_search.specs.Steps.Columns.{AreColumns, voters_of}
 use Rattle.thiele_search.proofs.ColumnLemmas.{voters-push, voters-part}
 use Rattle.thiele_search.proofs.columns.blocks_of.Goals as goal
+use Rattle.thiele_search.proofs.columns.blocks_of.Goals.{In_ok-blocks}
+
+nobody : (n m b c : ℕ) → get_or {A = ℕ} (get_or {A = List ℕ} (replicate n (replicate m 0)) b []) c 0 ≡ 0
+nobody zero m b c = refl
+nobody (suc n) m zero c = no_total m c
+nobody (suc n) m (suc b) c = nobody n m b c
+
+-- the blocks are made without voters
+empty : (g : _) (c : In_ok-blocks g) → c.in_ok-blocks.blocks.items ≡ replicate c.div_ceil-most.result (replicate 65 0)
+empty g c = c.in_ok-blocks.ensures.items_if_clones_equal (λ block same. each_same _ block same.whole)
+
+-- there are enough of them, and not too many
+many-blocks : (g : _) (c : In_ok-blocks g) → length c.in_ok-blocks.blocks.items ≡ c.div_ceil-most.result
+many-blocks g c = ap length (empty g c) ∙ length-replicate c.div_ceil-most.result (replicate {A = ℕ} 65 0)
 
 pub loop-ballot-init : goal.loop-ballot-init
 loop-ballot-init g c = record {
   long = refl;
   many = refl;
-  held = c.in_ok-blocks.ensures.none;
+  held = λ b n i within.
+      ap (λ (all : List (List ℕ)). bit_at (get_or (get_or all b []) n 0) i) (empty g (goal.at.loop-ballot-init g c).In_ok-blocks)
+      ∙ ap (λ (word : ℕ). bit_at word i) (nobody c.div_ceil-most.result 65 b n)
+      ∙ bit_at-zero i;
 }
 
 pub add_row-requires : goal.add_row-requires
@@ -20,7 +41,8 @@ add_row-requires g c =
     let at = row_of_turn c.args.profile.now.rows (c.into_iter-ballot-iterator.ensures.into_iter_gives ∙ c.ballots-ballot-items.ensures.rows) c.loop-ballot.yielded c.loop-ballot.yielded_by row c.in-Some.ensures.steps in
     omega (
       arith,
-      c.in_ok-blocks.ensures.all,
+      many-blocks g (goal.at.add_row-requires g c).In_ok-blocks,
+      c.div_ceil-most.ensures,
       c.loop-ballot.invariant.long,
       c.voters.ensures.value,
       c.loop-ballot.invariant.many,
@@ -54,10 +76,12 @@ loop-ballot-preserved g c =
     }
 
 pub returns-clause-few : goal.returns-clause-few
-returns-clause-few g c = omega (arith, c.loop-ballot.invariant.long, c.in_ok-blocks.ensures.few)
+returns-clause-few g c =
+    omega (arith, c.loop-ballot.invariant.long, many-blocks g (goal.at.returns-clause-few g c).In_ok-blocks, c.div_ceil-most.ensures, c.voters.ensures.value, c.requires)
 
 pub returns-clause-all : goal.returns-clause-all
-returns-clause-all g c = omega (arith, c.loop-ballot.invariant.long, c.in_ok-blocks.ensures.all, c.voters.ensures.value)
+returns-clause-all g c =
+    omega (arith, c.loop-ballot.invariant.long, many-blocks g (goal.at.returns-clause-all g c).In_ok-blocks, c.div_ceil-most.ensures, c.voters.ensures.value)
 
 pub returns-clause-columns : goal.returns-clause-columns
 returns-clause-columns g c =

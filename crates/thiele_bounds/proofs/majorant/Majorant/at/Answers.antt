@@ -2,7 +2,7 @@ use Rattle.std.proofs.Common.{ℕ, ◌+◌, ◌*◌, ◌^◌, ◌≤◌, ap, ari
 use Rattle.std.proofs.Math.Nat.{mul-le-mul}
 use Rattle.std.proofs.lemmas.Bool.{cases_eq}
 use Rattle.thiele_bounds.proofs.majorant.Majorant.at.Goals as goal
-use Rattle.thiele_bounds.proofs.majorant.Majorant.at.Goals.{then-touch-most, else-touch-most}
+use Rattle.thiele_bounds.proofs.majorant.Majorant.at.Goals.{After-from-2, then-touch-most, else-touch-most}
 
 -- an overlap for each pair of hits
 square : (overlap h : ℕ) → overlap ≤ 2 ^ 26 → h ≤ 64 → overlap * (h * h) ≤ 2 ^ 38
@@ -16,15 +16,24 @@ worth-small step overlap touch low small few =
     let all : overlap * (2 * touch + 1) ≤ 2 ^ 26 * 129 = mul-le-mul small (let top : 2 * touch + 1 ≤ 129 = omega (arith, few) in top) in
     omega (arith, all, low)
 
+step-small : (c : After-from-2) → c.if-touch-most.step ≤ 2 ^ 26
+step-small c = elim c.if-touch-most.branch [
+  | then-touch-most t ↦ omega (arith, t.step-is, t.saturating_sub-step.ensures, c.requires.small (c.from-first.result + c.from.result + 1))
+  | else-touch-most t ↦ omega (arith, t.step-is)
+]
+
+pub overflow_mul-step : goal.overflow_mul-step
+overflow_mul-step c =
+    let most : c.if-touch-most.step * c.from-run.result ≤ 2 ^ 26 * 64 =
+    mul-le-mul (step-small (goal.at.overflow_mul-step c).After-from-2) (let few : c.from-run.result ≤ 64 = omega (arith, c.from-run.ensures, c.requires.fits) in few) in
+    omega (arith, most)
+
 pub loop-hits-init : goal.loop-hits-init
 loop-hits-init c =
-    let step : c.if-touch-most.step ≤ 2 ^ 26 = elim c.if-touch-most.branch [
-      | then-touch-most t ↦ omega (arith, t.step-is, t.saturating_sub-step.ensures, c.requires.small (c.from-first.result + c.from.result + 1))
-      | else-touch-most t ↦ omega (arith, t.step-is)
-    ] in
+    let step = step-small (goal.at.loop-hits-init c).After-from-2 in
     record {
       step_small = step;
-      overlap_small = omega (arith, step, c.bend-overlap.ensures);
+      overlap_small = omega (arith, step, c.min-overlap.ensures);
       small = omega arith;
       above = λ h low. absurd (omega (arith, low));
     }
@@ -37,7 +46,7 @@ loop-hits-preserved c =
     record {
       step_small = inv.step_small;
       overlap_small = inv.overlap_small;
-      small = omega (arith, c.max-kept.ensures, c.saturating_sub.ensures, inv.small, c.requires.small (c.from-first.result + hits), square c.bend-overlap.result hits inv.overlap_small few);
+      small = omega (arith, c.max-kept.ensures, c.saturating_sub.ensures, inv.small, c.requires.small (c.from-first.result + hits), square c.min-overlap.result hits inv.overlap_small few);
       above = λ h low. elim (cases_eq h hits) [
         | inl same ↦ rw same (omega (arith, c.max-kept.ensures, c.saturating_sub.ensures))
         | inr other ↦ omega (arith, inv.above h (omega (arith, low, other)), c.max-kept.ensures)
@@ -53,8 +62,8 @@ returns c = record {
   );
   small = record {
     kept_small = c.loop-hits.invariant.small;
-    worth_small = worth-small c.if-touch-most.step c.bend-overlap.result c.from-4.result c.loop-hits.invariant.step_small c.loop-hits.invariant.overlap_small
-        (omega (arith, c.from-4.ensures, c.requires.touch, c.requires.fits));
+    worth_small = worth-small c.if-touch-most.step c.min-overlap.result c.from-3.result c.loop-hits.invariant.step_small c.loop-hits.invariant.overlap_small
+        (omega (arith, c.from-3.ensures, c.requires.touch, c.requires.fits));
     overlap_small = c.loop-hits.invariant.overlap_small;
   };
 }
@@ -62,14 +71,14 @@ returns c = record {
 pub overflow_add-given-in-loop-hits : goal.overflow_add-given-in-loop-hits
 overflow_add-given-in-loop-hits c =
     let few : c.loop-hits.hits ≤ 64 = omega (arith, c.loop-hits-test.true, c.from-hits-end.ensures, c.requires.fits) in
-    omega (arith, c.requires.small (c.from-first.result + c.loop-hits.hits), square c.bend-overlap.result c.loop-hits.hits c.loop-hits.invariant.overlap_small few)
+    omega (arith, c.requires.small (c.from-first.result + c.loop-hits.hits), square c.min-overlap.result c.loop-hits.hits c.loop-hits.invariant.overlap_small few)
 
 pub overflow_mul-worth-in-loop-hits : goal.overflow_mul-worth-in-loop-hits
 overflow_mul-worth-in-loop-hits c =
     let hits = c.loop-hits.hits in
-    let worth : ℕ = c.if-touch-most.step + c.bend-overlap.result * (2 * c.from-4.result + 1) in
+    let worth : ℕ = c.if-touch-most.step + c.min-overlap.result * (2 * c.from-3.result + 1) in
     let few : hits ≤ 64 = omega (arith, c.loop-hits-test.true, c.from-hits-end.ensures, c.requires.fits) in
-    let small : worth ≤ 2 ^ 34 = worth-small c.if-touch-most.step c.bend-overlap.result c.from-4.result c.loop-hits.invariant.step_small c.loop-hits.invariant.overlap_small
-    (omega (arith, c.from-4.ensures, c.requires.touch, c.requires.fits)) in
+    let small : worth ≤ 2 ^ 34 = worth-small c.if-touch-most.step c.min-overlap.result c.from-3.result c.loop-hits.invariant.step_small c.loop-hits.invariant.overlap_small
+    (omega (arith, c.from-3.ensures, c.requires.touch, c.requires.fits)) in
     let all : worth * hits ≤ 2 ^ 34 * 64 = mul-le-mul small few in
     omega (arith, all)

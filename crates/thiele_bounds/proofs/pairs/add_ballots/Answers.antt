@@ -13,17 +13,17 @@ use Rattle.thiele_bounds.proofs.PairBounds.OverlapLemmas.{portion}
 use Rattle.thiele_bounds.proofs.PairBounds.PairTotals.{cells-same, hits-both, portion-most, portion-self, row-up, totals-more, totals-none, voters-more, voters-room}
 use Rattle.row_bounds.proofs.HitLemmas.{free-common}
 use Rattle.row_bounds.proofs.SearchLemmas.{part-most}
-use Rattle.thiele_bounds.proofs.pairs.PairSearch.add_ballots.Goals as goal
+use Rattle.thiele_bounds.proofs.pairs.add_ballots.Goals as goal
 
 pub loop-ballot-init : goal.loop-ballot-init
 loop-ballot-init g c =
-    let self = c.args.self.now in
+    let given = c.args.given.now in
     let totals = c.args.totals.now in
     let nothing = c.requires.nothing in
     record {
       sums = c.new-majorants.ensures.sums;
       left = c.new-majorants.ensures.left;
-      totals = λ weights are. totals-none weights self.given.now.scale self.given.now.unit self.profile.now.m self.profile.now.rows c.args.node.now.set c.args.node.now.free c.args.node.now.left totals.kept totals.worths totals.overlaps nothing;
+      totals = λ weights are. totals-none weights given.scale given.unit c.args.profile.now.m c.args.profile.now.rows c.args.node.now.set c.args.node.now.free c.args.node.now.left totals.kept totals.worths totals.overlaps nothing;
       small_kept = omega (arith, nothing.kept_none);
       small_worths = λ n. omega (arith, nothing.worths_none n);
       self_overlaps = λ i j one other. omega (arith, nothing.overlaps_none i j);
@@ -32,7 +32,7 @@ loop-ballot-init g c =
 
 pub of_ballot-majorant-requires : goal.of_ballot-majorant-requires
 of_ballot-majorant-requires g c =
-    let e = c.args.self.now.profile.now in
+    let e = c.args.profile.now in
     let row : Row = (c.in-Some.ballot, c.in-Some.voters) in
     let at = row_of_turn e.rows (c.into_iter-ballot-iterator.ensures.into_iter_gives ∙ c.ballots-ballot-items.ensures.rows) c.loop-ballot.yielded c.loop-ballot.yielded_by row c.in-Some.ensures.steps in
     omega (
@@ -48,7 +48,7 @@ of_ballot-majorant-requires g c =
 
 pub add-requires : goal.add-requires
 add-requires g c =
-    let e = c.args.self.now.profile.now in
+    let e = c.args.profile.now in
     let row : Row = (c.in-Some.ballot, c.in-Some.voters) in
     let at = row_of_turn e.rows (c.into_iter-ballot-iterator.ensures.into_iter_gives ∙ c.ballots-ballot-items.ensures.rows) c.loop-ballot.yielded c.loop-ballot.yielded_by row c.in-Some.ensures.steps in
     let room = voters-room e c.ballots-ballot-items.ensures.valid (length c.loop-ballot.yielded) row at in
@@ -66,8 +66,8 @@ add-requires g c =
 
 pub loop-ballot-preserved : goal.loop-ballot-preserved
 loop-ballot-preserved g c =
-    let self = c.args.self.now in
-    let e = self.profile.now in
+    let given = c.args.given.now in
+    let e = c.args.profile.now in
     let set = c.args.node.now.set in
     let free = c.args.node.now.free in
     let row : Row = (c.in-Some.ballot, c.in-Some.voters) in
@@ -80,8 +80,8 @@ loop-ballot-preserved g c =
     let majorant = c.of_ballot-majorant.result in
     let before : c.len-before.result ≡ hits row.0 set = c.len-before.ensures.count ∙ ap length c.common.ensures ∙ length-common row.0 set in
     let open_ : c.len-in-loop-ballot.result ≡ hits row.0 free = c.len-in-loop-ballot.ensures.count ∙ ap length c.common-approved.ensures ∙ length-common row.0 free in
-    let is : IsMajorantOf self.given.now.sums c.len-before.result (min c.args.node.now.left c.len-in-loop-ballot.result) majorant =
-    subst (λ n. IsMajorantOf self.given.now.sums c.len-before.result (min n c.len-in-loop-ballot.result) majorant) inv.left
+    let is : IsMajorantOf given.sums c.len-before.result (min c.args.node.now.left c.len-in-loop-ballot.result) majorant =
+    subst (λ n. IsMajorantOf given.sums c.len-before.result (min n c.len-in-loop-ballot.result) majorant) inv.left
     (subst (λ (l : List ℕ). IsMajorantOf l c.len-before.result (min c.loop-ballot.majorants.left c.len-in-loop-ballot.result) majorant) inv.sums c.of_ballot-majorant.ensures.majorant) in
     let before_totals = c.loop-ballot.totals in
     let totals = c.add.new.self in
@@ -98,9 +98,9 @@ loop-ballot-preserved g c =
     record {
       sums = ap (λ (m : Majorized). m.sums) c.of_ballot-majorant.ensures.same ∙ inv.sums;
       left = ap (λ (m : Majorized). m.left) c.of_ballot-majorant.ensures.same ∙ inv.left;
-      totals = λ weights are. subst (λ n. AreTotals weights self.given.now.scale self.given.now.unit e.m (take n e.rows) set free c.args.node.now.left totals.kept totals.worths totals.overlaps) next
-          (subst (λ n. AreTotals weights self.given.now.scale self.given.now.unit e.m (take (i + 1) e.rows) set free c.args.node.now.left n totals.worths totals.overlaps) (sym c.add.ensures.kept)
-          (totals-more e valid i row at weights self.given.now.sums self.given.now.scale self.given.now.unit set free c.args.node.now.left c.len-before.result (min c.args.node.now.left c.len-in-loop-ballot.result) majorant.kept majorant.worth
+      totals = λ weights are. subst (λ n. AreTotals weights given.scale given.unit e.m (take n e.rows) set free c.args.node.now.left totals.kept totals.worths totals.overlaps) next
+          (subst (λ n. AreTotals weights given.scale given.unit e.m (take (i + 1) e.rows) set free c.args.node.now.left n totals.worths totals.overlaps) (sym c.add.ensures.kept)
+          (totals-more e valid i row at weights given.sums given.scale given.unit set free c.args.node.now.left c.len-before.result (min c.args.node.now.left c.len-in-loop-ballot.result) majorant.kept majorant.worth
           majorant.overlap before_totals.kept before_totals.worths totals.worths before_totals.overlaps totals.overlaps c.requires.is_node are before (ap (min c.args.node.now.left) open_) is.bounds
           (inv.totals weights are) worths overlaps));
       small_kept = subst (λ n. totals.kept ≤ voter_count (take n e.rows) * 2 ^ 39) next (omega (arith, c.add.ensures.kept, small_kept, voters, inv.small_kept));
@@ -114,15 +114,15 @@ loop-ballot-preserved g c =
 
 pub returns-clause-totals : goal.returns-clause-totals
 returns-clause-totals g c weights are =
-    let self = c.args.self.now in
-    let e = self.profile.now in
+    let given = c.args.given.now in
+    let e = c.args.profile.now in
     let all = all_passed e.rows (c.into_iter-ballot-iterator.ensures.into_iter_gives ∙ c.ballots-ballot-items.ensures.rows) c.loop-ballot.yielded c.loop-ballot.yielded_by c.in-None.ensures.steps.0 in
-    subst (λ rows. AreTotals weights self.given.now.scale self.given.now.unit e.m rows c.args.node.now.set c.args.node.now.free c.args.node.now.left c.loop-ballot.totals.kept c.loop-ballot.totals.worths c.loop-ballot.totals.overlaps) all
+    subst (λ rows. AreTotals weights given.scale given.unit e.m rows c.args.node.now.set c.args.node.now.free c.args.node.now.left c.loop-ballot.totals.kept c.loop-ballot.totals.worths c.loop-ballot.totals.overlaps) all
     (c.loop-ballot.invariant.totals weights are)
 
 pub returns-clause-small : goal.returns-clause-small
 returns-clause-small g c =
-    let e = c.args.self.now.profile.now in
+    let e = c.args.profile.now in
     let few = sum_by-take-le (λ (r : Row). r.1) e.rows (length c.loop-ballot.yielded) in
     let inv = c.loop-ballot.invariant in
     let valid = c.ballots-ballot-items.ensures.valid in
