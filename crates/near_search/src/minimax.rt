@@ -27,7 +27,6 @@ pub struct MinimaxSearch<'a, A: Allocator + Copy = Global> {
 }
 
 impl<'a, A: Allocator + Copy> Model for MinimaxSearch<'a, A> {
-    ghost use Rattle.std.specs.Prelude.{◌≡◌};
     ghost use Rattle.ballot_base.specs.Ballots.{Election, IsElection};
     ghost use Rattle.ballot_base.specs.Clones.{AreClones};
 

@@ -7,8 +7,7 @@
 //!
 //! If several seats are left and several candidates are to be tried, all needs are also added up, each with a weight
 //! (module `weights`).
-ghost use Rattle.std.specs.Prelude.{◌≡◌, ℕ, ◌-◌, ◌≤◌, length, slice_index, MatchOption, ⊤};
-ghost use Rattle.ballot_base.specs.Limits.{most_candidates};
+ghost use Rattle.std.specs.Prelude.{◌≤◌, ⊤};
 ghost use Rattle.row_bounds.specs.Completions.{IsNode};
 ghost use Rattle.near_search.specs.Steps.Near.{Branches, IsNearPlan};
 

@@ -5,7 +5,7 @@
 //! constraints, 1968). Any weights are right. A ballot weighs by the share that it needs of its free candidates. If
 //! that pays, weights are moved instead (`row_bounds::multipliers`). With weights by the share, 64 candidates and 20
 //! seats did not end within 12 s if voters and candidates lie on a line. With moved ones they take 0.01 s.
-ghost use Rattle.std.specs.Prelude.{◌≡◌, ℕ, ◌-◌, ◌^◌, ◌≤◌, slice_index};
+ghost use Rattle.std.specs.Prelude.{ℕ, ◌^◌, ◌≤◌, slice_index};
 ghost use Rattle.ballot_base.specs.Limits.{most_candidates};
 ghost use Rattle.row_bounds.specs.Completions.{IsNode};
 ghost use Rattle.near_search.specs.Steps.Near.{NarrowsNear, share_parts};
