@@ -102,13 +102,11 @@ impl HitSums {
         requires fits { before + most ≤ most_candidates }
         ensures { result ≤ most }
     {
-        let mut wanted = 0;
-        while wanted < most
-            && self.increment(before + wanted) + u64::from(wanted < hits) > multiplier
-        {
-            wanted += 1;
+        let mut more = 0;
+        while more < most && self.increment(before + more) + u64::from(more < hits) > multiplier {
+            more += 1;
         }
-        wanted
+        more
     }
 
     /// A value in units. Every value with fewer units is lower.

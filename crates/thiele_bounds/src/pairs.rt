@@ -36,9 +36,9 @@ struct Totals {
     overlaps: Table,
 }
 
-/// The free candidates of a node that can still join, if a committee has to reach the value `least`. Returns `None` only
-/// if no completion of its set does. Counts are not kept for later nodes: when they were, long lists of ties took a
-/// quarter more instructions.
+/// The free candidates of a node that can still join, if a committee has to reach the value `least`. Returns `None`
+/// only if no completion of its set does. Counts are not kept for later nodes: when they were, long lists of ties took
+/// a quarter more instructions.
 pub fn narrowed<A: Allocator + Copy>(
     profile: &Profile<A>,
     given: &HitSums,

@@ -22,9 +22,7 @@ ghost use Rattle.thiele_bounds.specs.Steps.Totals.{BoundNode};
 use crate::majorant::HitSums;
 use ballot_base::{CandSet, Profile, Worths};
 use row_bounds::Node;
-use row_bounds::multipliers::{
-    Constraint, Effort, Gap, Moved, Multipliers, RowBound, WHOLE, narrowed,
-};
+use row_bounds::multipliers::{self, Constraint, Effort, Gap, Moved, Multipliers, RowBound};
 use std::alloc::Allocator;
 use tie_walk::{Tally, ThieleTally};
 
@@ -52,7 +50,7 @@ pub const AGAIN: Effort = Effort { rounds: 4, ..NODE };
 fn root(units: u128) -> Effort {
     Effort {
         rounds: 600,
-        pace: WHOLE,
+        pace: multipliers::WHOLE,
         least_pace: 1,
         patience: 20,
         large_gap: Some(units / LARGE_GAP),
@@ -110,16 +108,15 @@ impl<A: Allocator + Copy> PriceSearch<'_, A> {
         requires fits { before + most ≤ most_candidates }
         ensures { result ≤ most_given }
     {
+        let first = self.given.increment(before);
         let last = self.given.increment(before + most);
-        self.multipliers
-            .within(i, last, self.given.increment(before))
+        self.multipliers.within(i, last, first)
     }
 
     /// Begins between the increments of the last hit of a good committee, if there is one, and of the next one.
     fn begin(&self, good: CandSet) {
         for i in 0..self.profile.rows() {
-            let (ballot, _voters) = self.profile.row(i);
-            let hits = ballot.common(good).len();
+            let hits = self.profile.row(i).0.common(good).len();
             let next = self.given.increment(hits);
             let last = self.given.increment(hits.saturating_sub(1));
             self.multipliers.begin(i, next / 2 + last / 2);
@@ -214,7 +211,8 @@ impl<A: Allocator + Copy> Priced<A> {
             least: values.value(candidates.common(good)).saturating_add(1),
         };
         search.begin(good);
-        let moved = narrowed(&search, &multipliers, &all, root(given.units(search.least)));
+        let effort = root(given.units(search.least));
+        let moved = multipliers::narrowed(&search, &multipliers, &all, effort);
         let whole = search.prices(&all);
         Some(Priced {
             k,
@@ -225,8 +223,9 @@ impl<A: Allocator + Copy> Priced<A> {
             show_best: moved.free.is_none(),
         })
     }
-    /// The free candidates of a node that can still join, by the prices of the whole election. Returns `None` only if no
-    /// completion of its set reaches the value. In a committee of another size than `k` all can still join.
+
+    /// The free candidates of a node that can still join, by the prices of the whole election. Returns `None` only if
+    /// no completion of its set reaches the value. In a committee of another size than `k` all can still join.
     pub fn narrowed(&self, node: &Node, least: u128) -> Option<CandSet>
         ensures { (tally : Thiele) → ArePrices tally self.now → tally.election.m ≤ most_candidates
             → IsNode tally.election.m node.now.set node.now.free
@@ -263,6 +262,6 @@ impl<A: Allocator + Copy> Priced<A> {
             multipliers: &self.multipliers,
             least,
         };
-        narrowed(&search, &self.multipliers, node, effort)
+        multipliers::narrowed(&search, &self.multipliers, node, effort)
     }
 }

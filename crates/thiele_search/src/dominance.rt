@@ -23,11 +23,7 @@ pub(crate) struct Dominance {
 
 impl Dominance {
     /// Returns `None` if some hit adds nothing, as the second one does under `cc`.
-    pub fn of<A: Allocator + Copy>(
-        profile: &Profile<A>,
-        rule: ThieleRule,
-        k: u8,
-    ) -> Option<Dominance>
+    pub fn of<A: Allocator + Copy>(profile: &Profile<A>, rule: ThieleRule, k: u8) -> Option<Self>
         requires some { 1 ≤ k }
         requires size { k ≤ most_members }
         ensures { MatchOption result ⊤ (IsDominance (thiele_of profile.now rule k)) }

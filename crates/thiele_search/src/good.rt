@@ -55,9 +55,8 @@ impl<A: Allocator + Copy> ThieleSearch<'_, A> {
         requires member { member ≤ most_candidates }
         ensures { IsIncreasing 1 self.now.election.m result }
     {
-        let all = CandSet::all(self.values.m());
         let rest = committee.without(member);
-        let others = all.minus(rest);
+        let others = CandSet::all(self.values.m()).minus(rest);
         let gains = self.gains_at(rest, others);
         match gains.best_of(others) {
             Some(next) if gains.of(next) > gains.of(member) => rest.with(next),

@@ -4,11 +4,11 @@
 //! grows (`laws::gains`; Nemhauser and Wolsey, Maximizing submodular set functions, 1981). The prices of the whole
 //! election come before the gains are counted, and under `cc` the number of voters that the free candidates cover.
 //!
-//! If enough seats are left, a bound by pairs of candidates comes before the gains as well (module `pairs`). It counts
-//! a voter who approves two members less than twice. Then come prices of the node itself, whose multipliers are moved
-//! (module `multipliers`). Pairs shorten elections whose ballots were drawn independently, and prices those whose
-//! ballots have structure. A search begins without both, since a short one ends sooner without them. Each is left out
-//! again if it does not pay (module `trials`).
+//! If enough seats are left, a bound by pairs of candidates comes before the gains as well (`thiele_bounds::pairs`). It
+//! counts a voter who approves two members less than twice. Then come prices of the node itself, whose multipliers are
+//! moved (`row_bounds::multipliers`). Pairs shorten elections whose ballots were drawn independently, and prices those
+//! whose ballots have structure. A search begins without both, since a short one ends sooner without them. Each is left
+//! out again if it does not pay (module `trials`, `row_bounds::moves`).
 ghost use Rattle.std.specs.Prelude.{◌≡◌, ℕ, ◌≤◌, true, false, IsTrue, slice_index};
 ghost use Rattle.ballot_base.specs.CandSet.{has_member};
 ghost use Rattle.ballot_base.specs.Lists.{IsIncreasing};
@@ -86,8 +86,8 @@ impl<'a, A: Allocator + Copy> ThieleSearch<'a, A> {
         }
     }
 
-    /// Like `eligible`, but by how many voters the free candidates cover, if this is worth asking. Under rules other than
-    /// `cc`, which counts only a voter's first hit, the answer would seldom be no.
+    /// Like `eligible`, but by how many voters the free candidates cover, if this is worth asking. Under rules other
+    /// than `cc`, which counts only a voter's first hit, it would seldom give up a set.
     fn covered(&self, node: &Node, least: u128) -> Option<CandSet>
         requires is_node { IsNode self.now.election.m node.now.set node.now.free }
         ensures { Narrows (tally_value self.now) self.now.election.m node.now least result }
@@ -134,9 +134,7 @@ impl<'a, A: Allocator + Copy> ThieleSearch<'a, A> {
         // Counting pairs takes about as long as a round over the rows.
         self.moves.work(u32::from(is_due));
         match &self.aids.sums {
-            Some(given) if is_due => {
-                uses.note(pairs::narrowed(self.profile, given, node, least))
-            }
+            Some(given) if is_due => uses.note(pairs::narrowed(self.profile, given, node, least)),
             _ => Some(node.free),
         }
     }
@@ -199,10 +197,8 @@ impl<'a, A: Allocator + Copy> Narrowing for ThieleSearch<'a, A> {
             free: node.free.without(next),
             left: node.left - 1,
         };
-        let free = match self.promising(&plan.worths, &child, plan.least) {
-            Some(kept) => kept,
-            None => CandSet::empty(),
-        };
+        let kept = self.promising(&plan.worths, &child, plan.least);
+        let free = kept.unwrap_or(CandSet::empty());
         Node { free, ..child }
     }
 }

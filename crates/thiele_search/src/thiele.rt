@@ -103,31 +103,26 @@ impl<'a, A: Allocator + Copy + Drop> ThieleSearch<'a, A> {
     pub fn new(memory: SearchMemory<'a, A>) -> ThieleSearch<'a, A>
         ensures { result ≡ memory.entry }
     {
-        let SearchMemory {
-            profile,
-            values,
-            k,
-            columns,
-            multipliers,
-        } = memory;
+        let (profile, k) = (memory.profile, memory.k);
+        let rule = memory.values.rule();
         let search = ThieleSearch {
             profile,
             aids: Aids {
                 clones: Clones::of(profile),
-                dominance: Dominance::of(profile, values.rule(), k),
-                columns,
+                dominance: Dominance::of(profile, rule, k),
+                columns: memory.columns,
                 priced: None,
-                sums: HitSums::of(values.rule(), k, PAIR_UNITS),
+                sums: HitSums::of(rule, k, PAIR_UNITS),
                 uses: Uses::none(),
             },
-            values,
+            values: memory.values,
             good: CandSet::empty(),
             counts_pairs: Cell::new(false),
             // A visit passes over blocks of voters, and takes less than a round over the rows.
             moves: Moves::new(profile.rows().div_ceil(32) as u64),
         };
         let good = search.grown(k);
-        let priced = Priced::of(multipliers, profile, &search.values, k, good);
+        let priced = Priced::of(memory.multipliers, profile, &search.values, k, good);
         let aids = search.aids;
         let mut search = ThieleSearch {
             aids: Aids { priced, ..aids },

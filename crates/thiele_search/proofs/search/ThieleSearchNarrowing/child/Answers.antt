@@ -1,9 +1,10 @@
-use Rattle.std.proofs.Common.{◌≡◌, ℕ, ◌+◌, ◌-◌, ◌≤◌, true, List, refl, subst, sym, arith, get_or}
+use Rattle.std.proofs.Common.{◌≡◌, ℕ, ◌+◌, ◌-◌, ◌≤◌, true, List, Option, None, Some, refl, arith, get_or}
+use Rattle.std.specs.Option.{MatchOption, unwrap_or}
 use Rattle.ballot_base.specs.CandSet.{has_member, with_member, without_member}
 use Rattle.ballot_base.specs.Increments.{increments}
 use Rattle.tie_walk.specs.Ceilings.{gain_at}
 use Rattle.tie_walk.proofs.Submodular.{thiele_rule-submodular}
-use Rattle.row_bounds.specs.Completions.{IsNode}
+use Rattle.row_bounds.specs.Completions.{IsNode, IsOutOfReach}
 use Rattle.tie_walk.specs.Values.{tally_value}
 use Rattle.row_bounds.specs.Steps.Narrowed.{IsNarrowed}
 use Rattle.row_bounds.proofs.CompletionLemmas.{member-high, member-low, node-with, without-is}
@@ -12,7 +13,7 @@ use Rattle.row_bounds.proofs.NarrowedLemmas.{narrowed-empty}
 use Rattle.thiele_search.proofs.GainLemmas.{gain-falls, gain-same, valued-more, valued-small}
 use Rattle.thiele_search.specs.Steps.Aided.{IsValued}
 use Rattle.thiele_search.proofs.search.ThieleSearchNarrowing.child.Goals as goal
-use Rattle.thiele_search.proofs.search.ThieleSearchNarrowing.child.Goals.{After-of, in-None, in-Some}
+use Rattle.thiele_search.proofs.search.ThieleSearchNarrowing.child.Goals.{After-of}
 
 pub with-requires-clause-low : goal.with-requires-clause-low
 with-requires-clause-low g c = member-low 1 c.args.self.now.election.m c.args.node.now.free c.args.next c.requires.is_node.free_within c.requires.next
@@ -46,15 +47,15 @@ overflow_add-child g c =
       valued-small c.args.self.now (with_member c.args.node.now.set c.args.next) (c.args.node.now.value + c.of.result) (joined g (goal.at.overflow_add-child g c).After-of),
     )
 
-pub promising-requires-clause-is_node : goal.promising-requires-clause-is_node
-promising-requires-clause-is_node g c =
+pub promising-kept-requires-clause-is_node : goal.promising-kept-requires-clause-is_node
+promising-kept-requires-clause-is_node g c =
     rw (c.with.ensures, c.without.ensures) (node-with c.args.self.now.election.m c.args.node.now.set c.args.node.now.free c.args.next c.requires.is_node c.requires.next)
 
-pub promising-requires-clause-valued : goal.promising-requires-clause-valued
-promising-requires-clause-valued g c = rw c.with.ensures (joined g (goal.at.promising-requires-clause-valued g c).After-of)
+pub promising-kept-requires-clause-valued : goal.promising-kept-requires-clause-valued
+promising-kept-requires-clause-valued g c = rw c.with.ensures (joined g (goal.at.promising-kept-requires-clause-valued g c).After-of)
 
-pub promising-requires-clause-gains : goal.promising-requires-clause-gains
-promising-requires-clause-gains g c n is =
+pub promising-kept-requires-clause-gains : goal.promising-kept-requires-clause-gains
+promising-kept-requires-clause-gains g c n is =
     let tally = c.args.self.now in
     let node = c.args.node.now in
     let here : has_member node.free n ≡ true = without-is node.free c.args.next n (rw c.without.ensures at is) in
@@ -64,21 +65,27 @@ promising-requires-clause-gains g c n is =
     gain-falls (tally_value tally) (thiele_rule-submodular tally.rule tally.k tally.election.rows c.requires.valued.size) (thiele-same (increments tally.rule tally.k) tally.election.rows) node.set c.args.next n in
     rw c.with.ensures (omega (arith, before, falls))
 
+-- what narrows, or the default if nothing is left
+by-default : (answer : Option (List ℕ)) (default : List ℕ) (Out : Type 0) (Is : List ℕ → Type 0) → MatchOption answer Out Is → (Out → Is default) → Is (unwrap_or answer default)
+by-default None default Out Is out empty = empty out
+by-default (Some kept) default Out Is is empty = is
+
 pub returns-clause-child : goal.returns-clause-child
 returns-clause-child g c =
     let tally = c.args.self.now in
     let node = c.args.node.now in
+    let V = tally_value tally in
     let m = tally.election.m in
-    let is_node : IsNode m (with_member node.set c.args.next) (without_member node.free c.args.next) = node-with m node.set node.free c.args.next c.requires.is_node c.requires.next in
-    let IsOne : List ℕ → Type 0 = IsNarrowed (tally_value tally) m (with_member node.set c.args.next) (without_member node.free c.args.next) (node.left - 1) c.args.plan.now.least in
+    let set = with_member node.set c.args.next in
+    let free = without_member node.free c.args.next in
+    let least = c.args.plan.now.least in
+    let is_node : IsNode m set free = node-with m node.set node.free c.args.next c.requires.is_node c.requires.next in
     record {
       set = c.with.ensures;
       left = refl;
-      narrowed = elim c.match-promising.branch [
-        | in-Some w ↦ subst IsOne (sym w.free-is) (rw (c.with.ensures, c.without.ensures) at w.in-Some.ensures)
-        | in-None w ↦ subst IsOne (sym w.free-is) (rw w.empty-free.ensures (narrowed-empty (tally_value tally) m (with_member node.set c.args.next) (without_member node.free c.args.next) (node.left - 1) c.args.plan.now.least is_node
-            (rw (c.with.ensures, c.without.ensures) at w.in-None.ensures)))
-      ];
+      narrowed = rw c.unwrap_or-free.ensures (by-default c.promising-kept.result c.empty.result (IsOutOfReach V m set free (node.left - 1) least) (IsNarrowed V m set free (node.left - 1) least)
+          (rw (c.with.ensures, c.without.ensures) at c.promising-kept.ensures)
+          (λ out. rw c.empty.ensures (narrowed-empty V m set free (node.left - 1) least is_node out)));
     }
 
 pub returns-clause-valued : goal.returns-clause-valued

@@ -7,7 +7,7 @@ use Rattle.thiele_search.proofs.thiele.ThieleSearch.replaced.Goals.{After-withou
 
 next-among : (g : _) (c : In-Some g) → (1 ≤ c.in-Some.next) × (c.in-Some.next ≤ c.args.self.now.election.m)
 next-among g c =
-    rw (c.m.ensures.value, c.self.view_is) at (beside-candidates c.m.result c.all-all.result c.without-rest.result c.minus-others.result c.in-Some.next c.all-all.ensures c.minus-others.ensures c.in-Some.ensures.0)
+    rw (c.m.ensures.value, c.self.view_is) at (beside-candidates c.m.result c.all.result c.without-rest.result c.minus-others.result c.in-Some.next c.all.ensures c.minus-others.ensures c.in-Some.ensures.0)
 
 rest-among : (g : _) (c : After-without-rest g) → IsIncreasing 1 c.args.self.now.election.m c.without-rest.result
 rest-among g c =
