@@ -178,6 +178,7 @@ impl<'a, A: Allocator + Copy> Searchable for ThieleSearch<'a, A> {
         // One winner after another is asked for, and most of these searches end after a few sets. With pairs, some
         // party lists took six times as long.
         self.counts_pairs.set(false);
+        self.moves.begin();
         descent::find(self, *node, least)
     }
 

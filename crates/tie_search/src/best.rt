@@ -3,9 +3,8 @@
 //! A search may list all committees with the highest value; then the list answers each question. Otherwise searches for
 //! more than the best known value are made until one finds nothing, and questions are answered by further searches.
 //!
-//! Two committees are tried before such a search: the one found last, after exchanges of clones, and the set with its
-//! first free candidates. Each is tested by its members and value, so any committee may be tried. The first free
-//! candidates are tried because the first winner is wanted: if they win, their committee serves all the way down.
+//! Before such a search, the committee found last is tried, after exchanges of clones. It is tested by its members and
+//! value, so any committee may be tried.
 ghost use Rattle.std.specs.Prelude.{◌≡◌, ◌+◌, ◌≤◌, [], true, MatchOption, length, ⊤};
 ghost use Rattle.ballot_base.specs.Limits.{most_candidates};
 ghost use Rattle.ballot_base.specs.Lists.{IsIncreasing};
@@ -85,9 +84,7 @@ impl<S: Searchable> Best<S> {
         None
     }
 
-    /// A committee with the highest value that completes the branch, if one of two tries is such a committee: `found`
-    /// after exchanges of clones, and the set with its first free candidates. (With the last ones, searches took up to
-    /// a fifth longer.)
+    /// `found` after exchanges of clones, if it then has the highest value and completes the branch.
     pub(crate) fn shown(&self, found: CandSet, branch: &Branch) -> Option<CandSet>
         requires knows { KnowsBest S.value_of S.class_of S.candidates self.now }
         requires branch { IsBranch (S.candidates self.now.search) self.now.k branch.now }
@@ -95,11 +92,7 @@ impl<S: Searchable> Best<S> {
             (IsWinnerOf (S.value_of self.now.search) (S.candidates self.now.search) self.now.k branch.now) }
     {
         let alike = branch.exchanged(self.search.clones(), found);
-        if self.wins(alike, branch) {
-            return Some(alike);
-        }
-        let first = branch.first(self.k);
-        self.wins(first, branch).then_some(first)
+        self.wins(alike, branch).then_some(alike)
     }
 
     fn wins(&self, committee: CandSet, branch: &Branch) -> bool

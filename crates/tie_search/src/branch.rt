@@ -52,12 +52,6 @@ impl Branch {
         true
     }
 
-    /// The set, filled up to `k` members with its first free candidates. The caller tests it, so any set would do.
-    pub(crate) fn first(&self, k: u8) -> CandSet {
-        self.set
-            .union(first_of(self.free, k.saturating_sub(self.set.len())))
-    }
-
     /// The first committee that completes the branch and comes from `committee` by exchanges of clones. Returns
     /// `committee` itself if there are too few clones. The caller tests it, so any set would do.
     pub(crate) fn exchanged(&self, clones: &Clones, committee: CandSet) -> CandSet {
