@@ -28,7 +28,7 @@ abbrev pub IsOutOfReach : (List ℕ → ℕ) → ℕ → List ℕ → List ℕ �
 IsOutOfReach value m set free left least =
     (committee : List ℕ) → IsCompletion m set free left committee → value committee < least
 
--- the answer of a search at a node: a committee that completes the set and reaches the value, or nothing if there is none
+-- the answer of a search at a node: a committee that completes the set and reaches the value, or nothing if none does
 abbrev pub Finds : (List ℕ → ℕ) → ℕ → Node → ℕ → Option (List ℕ) → Type 0
 Finds value m node least answer =
     MatchOption answer (IsOutOfReach value m node.set node.free node.left least)
