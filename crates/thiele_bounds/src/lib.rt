@@ -10,4 +10,4 @@ pub mod pairs;
 pub mod prices;
 
 pub use majorant::{HitSums, PAIR_UNITS};
-pub use prices::{AGAIN, NODE, Priced};
+pub use prices::{AGAIN, NODE, PriceSearch, Priced};

@@ -22,7 +22,7 @@ ghost use Rattle.thiele_bounds.specs.Steps.Totals.{BoundNode};
 use crate::majorant::HitSums;
 use ballot_base::{CandSet, Profile, Worths};
 use row_bounds::Node;
-use row_bounds::multipliers::{self, Constraint, Effort, Gap, Moved, Multipliers, RowBound};
+use row_bounds::multipliers::{self, Constraint, Effort, Gap, Multipliers, RowBound};
 use std::alloc::Allocator;
 use tie_walk::{Tally, ThieleTally};
 
@@ -61,12 +61,12 @@ fn root(units: u128) -> Effort {
 /// What a search looks for by prices: the ballots, what hits give, a multiplier for each row, and the value that a
 /// committee has to reach.
 #[derive(Drop)]
-struct PriceSearch<'a, A: Allocator + Copy> {
-    profile: &'a Profile<A>,
-    tally: &'a ThieleTally<'a, A>,
-    given: &'a HitSums,
-    multipliers: &'a Multipliers<A>,
-    least: u128,
+pub struct PriceSearch<'a, A: Allocator + Copy> {
+    pub profile: &'a Profile<A>,
+    pub tally: &'a ThieleTally<'a, A>,
+    pub given: &'a HitSums,
+    pub multipliers: &'a Multipliers<A>,
+    pub least: u128,
     ghost size: { profile.now.m ≤ most_candidates },
     ghost ballots: { profile.now ≡ tally.now.election },
     ghost sums: { AreSums (increments tally.now.rule tally.now.k) given.now.scale given.now.unit given.now.sums },
@@ -238,30 +238,5 @@ impl<A: Allocator + Copy> Priced<A> {
         let paid = kept.saturating_add(worths.excess(node.set, 0));
         let due = self.given.units(least).saturating_sub(paid);
         worths.members_for(node.free, node.left, due)
-    }
-
-    /// Like `narrowed`, but by prices of the node, whose multipliers are moved.
-    pub fn moved(
-        &self,
-        profile: &Profile<A>,
-        tally: &ThieleTally<A>,
-        node: &Node,
-        least: u128,
-        effort: Effort,
-    ) -> Moved
-        requires prices { ArePrices tally.now self.now }
-        requires ballots { profile.now ≡ tally.now.election }
-        requires most { profile.now.m ≤ most_candidates }
-        requires is_node { IsNode profile.now.m node.now.set node.now.free }
-        ensures { Narrows (tally_value tally.now) profile.now.m node.now least result.free }
-    {
-        let search = PriceSearch {
-            profile,
-            tally,
-            given: &self.given,
-            multipliers: &self.multipliers,
-            least,
-        };
-        multipliers::narrowed(&search, &self.multipliers, node, effort)
     }
 }

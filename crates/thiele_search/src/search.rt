@@ -26,9 +26,9 @@ use crate::thiele::ThieleSearch;
 use crate::trials::{FEW_SEATS, Uses};
 use ballot_base::{CandSet, Clones, ThieleRule, Worths};
 use row_bounds::Node;
-use row_bounds::multipliers::Effort;
+use row_bounds::multipliers::{self, Effort};
 use std::alloc::Allocator;
-use thiele_bounds::{AGAIN, HitSums, NODE, Priced, pairs};
+use thiele_bounds::{AGAIN, HitSums, NODE, PriceSearch, Priced, pairs};
 use tie_search::descent::{Narrowing, Plan};
 use tie_walk::Tally;
 
@@ -78,7 +78,14 @@ impl<'a, A: Allocator + Copy> ThieleSearch<'a, A> {
         let is_due = self.values.rule() != ThieleRule::Cc && self.moves.are_due(node.left);
         match &self.aids.priced {
             Some(priced) if is_due => {
-                let moved = priced.moved(self.profile, &self.values, node, least, effort);
+                let search = PriceSearch {
+                    profile: self.profile,
+                    tally: &self.values,
+                    given: &priced.given,
+                    multipliers: &priced.multipliers,
+                    least,
+                };
+                let moved = multipliers::narrowed(&search, &priced.multipliers, node, effort);
                 self.moves.note(node, &moved);
                 moved.free
             }
