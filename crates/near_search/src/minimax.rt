@@ -75,11 +75,6 @@ impl<'a, A: Allocator + Copy> Tally for MinimaxSearch<'a, A> {
     fn bound(&self, c: u8, set: CandSet, left: u8) -> u128 {
         MinimaxTally::new(self.profile).bound(c, set, left)
     }
-
-    fn good_committee(&self, k: u8) -> Option<CandSet> {
-        let committee = CandSet::all(self.m()).common(near_committee(self.profile, k));
-        (committee.len() == k).then_some(committee)
-    }
 }
 
 impl<'a, A: Allocator + Copy> WithClones for MinimaxSearch<'a, A> {
@@ -91,6 +86,11 @@ impl<'a, A: Allocator + Copy> WithClones for MinimaxSearch<'a, A> {
 }
 
 impl<'a, A: Allocator + Copy> Searchable for MinimaxSearch<'a, A> {
+    fn good_committee(&self, k: u8) -> Option<CandSet> {
+        let committee = CandSet::all(self.m()).common(near_committee(self.profile, k));
+        (committee.len() == k).then_some(committee)
+    }
+
     fn find(&self, node: &Node, least: u128) -> Option<CandSet> {
         descent::find(self, *node, least)
     }

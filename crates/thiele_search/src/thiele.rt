@@ -158,11 +158,6 @@ impl<'a, A: Allocator + Copy> Tally for ThieleSearch<'a, A> {
     fn bound(&self, c: u8, set: CandSet, left: u8) -> u128 {
         self.values.bound(c, set, left)
     }
-
-    fn good_committee(&self, k: u8) -> Option<CandSet> {
-        let committee = CandSet::all(self.values.m()).common(self.good);
-        (committee.len() == k).then_some(committee)
-    }
 }
 
 impl<'a, A: Allocator + Copy> WithClones for ThieleSearch<'a, A> {
@@ -174,6 +169,11 @@ impl<'a, A: Allocator + Copy> WithClones for ThieleSearch<'a, A> {
 }
 
 impl<'a, A: Allocator + Copy> Searchable for ThieleSearch<'a, A> {
+    fn good_committee(&self, k: u8) -> Option<CandSet> {
+        let committee = CandSet::all(self.values.m()).common(self.good);
+        (committee.len() == k).then_some(committee)
+    }
+
     fn find(&self, node: &Node, least: u128) -> Option<CandSet> {
         // One winner after another is asked for, and most of these searches end after a few sets. With pairs, some
         // party lists took six times as long.

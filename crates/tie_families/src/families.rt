@@ -142,25 +142,6 @@ impl<'a, A: Allocator + Copy> Families<'a, A> {
             && self.classes.is_between(least, most, all)
             && self.k <= self.classes.completed(c, set, most).len()
     }
-
-    /// A committee of the family of two sets: `least` and as many of the first candidates of `most` as fit in.
-    fn filled(&self, least: CandSet, most: CandSet) -> Option<CandSet>
-        requires least_set { IsIncreasing 1 self.now.election.m least }
-        requires most_set { IsIncreasing 1 self.now.election.m most }
-        ensures { MatchOption result ⊤ (λ filled.
-            IsIncreasing 1 self.now.election.m filled × (length filled ≡ self.now.k)) }
-    {
-        let k = self.k;
-        if least.len() > k {
-            return None;
-        }
-        let mut filled = least;
-        while filled.len() < k {
-            let (next, _others) = most.minus(filled).split_first()?;
-            filled = filled.with(next);
-        }
-        Some(filled)
-    }
 }
 
 impl<'a, A: Allocator + Copy> Tally for Families<'a, A> {
@@ -180,15 +161,6 @@ impl<'a, A: Allocator + Copy> Tally for Families<'a, A> {
 
     fn bound(&self, c: u8, set: CandSet, left: u8) -> u128 {
         u128::from(self.completes(c, set, left))
-    }
-
-    fn good_committee(&self, k: u8) -> Option<CandSet> {
-        if k != self.k {
-            return None;
-        }
-        let least = *self.leasts.first()?;
-        let most = *self.mosts.first()?;
-        self.filled(least, most)
     }
 }
 

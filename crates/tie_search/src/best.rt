@@ -132,7 +132,7 @@ fn best_committee<S: Searchable>(search: &S, k: u8) -> CandSet
     ensures best { S.value_of search.now result ≡ best_value (S.value_of search.now) (S.candidates search.now) k }
 {
     let most = search.bound(0, CandSet::empty(), k);
-    // The committee that the tally suggests; failing that, the first.
+    // The committee that the search suggests; failing that, the first.
     let mut best = search.good_committee(k).unwrap_or(CandSet::all(k));
     while let Some(better) = better_than(search, best, k, most) {
         best = better;

@@ -1,5 +1,5 @@
 //! What can be searched.
-ghost use Rattle.std.specs.Prelude.{◌≡◌, ℕ, ◌≤◌, List, MatchOption, ⊤};
+ghost use Rattle.std.specs.Prelude.{◌≡◌, ℕ, ◌≤◌, List, MatchOption, ⊤, length};
 ghost use Rattle.ballot_base.specs.Limits.{most_candidates};
 ghost use Rattle.ballot_base.specs.Lists.{IsIncreasing};
 ghost use Rattle.row_bounds.specs.Completions.{Finds, IsNode};
@@ -28,6 +28,12 @@ pub trait WithClones: Tally {
 
 /// Values of committees. A committee of at least a given value can be searched for.
 pub trait Searchable: WithClones {
+    /// A good committee of `k` to begin with. Any committee is right; the better it is, the less is searched.
+    fn good_committee(&self, k: u8) -> Option<CandSet>
+        requires some { 1 ≤ k }
+        requires fits { k ≤ Self.candidates self.now }
+        ensures { MatchOption result ⊤ (λ set. IsIncreasing 1 (Self.candidates self.now) set × (length set ≡ k)) };
+
     /// Finds a committee that completes a node and whose value is at least `least`. Returns `None` if there is none.
     fn find(&self, node: &Node, least: u128) -> Option<CandSet>
         requires is_node { IsNode (Self.candidates self.now) node.now.set node.now.free }

@@ -6,7 +6,7 @@ ghost use Rattle.std.specs.Prelude.{◌≡◌, ◌+◌, ◌^◌, ◌<◌, ◌≤
 ghost use Rattle.tie_walk.specs.Steps.Walks.{committees_from, those_reaching, IsPlace, IsFound};
 ghost use Rattle.tie_walk.specs.Winners.{best_value};
 
-use crate::good::good_committee;
+use crate::good::grown_committee;
 use crate::prefix::Prefix;
 use crate::tally::Tally;
 use crate::walk::Walk;
@@ -18,7 +18,7 @@ pub(crate) fn greatest_value<T: Tally>(tally: &T, k: u8) -> u128
     requires fits { k ≤ T.candidates tally.now }
     ensures { result ≡ best_value (T.value_of tally.now) (T.candidates tally.now) k }
 {
-    let mut best = tally.value(good_committee(tally, k));
+    let mut best = tally.value(grown_committee(tally, k));
     let bound = tally.bound(0, CandSet::empty(), k);
     let mut place = Some(Prefix::root());
     while best < bound {

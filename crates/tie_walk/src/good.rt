@@ -5,20 +5,8 @@ ghost use Rattle.ballot_base.specs.Lists.{IsIncreasing};
 use crate::tally::Tally;
 use ballot_base::CandSet;
 
-/// The tally's good committee of size k, or one that is made here if the tally knows none.
-pub(crate) fn good_committee<T: Tally>(tally: &T, k: u8) -> CandSet
-    requires some { 1 ≤ k }
-    requires fits { k ≤ T.candidates tally.now }
-    ensures candidates { IsIncreasing 1 (T.candidates tally.now) result }
-    ensures size { length result ≡ k }
-{
-    tally
-        .good_committee(k)
-        .unwrap_or_else(|| grown_committee(tally, k))
-}
-
 /// A committee of size k: the candidates who raise the value most, added one after another.
-fn grown_committee<T: Tally>(tally: &T, k: u8) -> CandSet
+pub(crate) fn grown_committee<T: Tally>(tally: &T, k: u8) -> CandSet
     requires fits { k ≤ T.candidates tally.now }
     ensures candidates { IsIncreasing 1 (T.candidates tally.now) result }
     ensures size { length result ≡ k }

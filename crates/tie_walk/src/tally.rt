@@ -3,7 +3,7 @@
 //! A walk knows of its tally only what the trait says: the value of a set and the law of the bound. So one walk serves
 //! rules with plain bounds and families of committees. `greatest_sum` finds the highest sum of gains from the lowest of
 //! these gains.
-ghost use Rattle.std.specs.Prelude.{◌≡◌, ℕ, ◌+◌, ◌-◌, ◌*◌, ◌<◌, ◌≤◌, List, MatchOption, ⊤, length, slice_index};
+ghost use Rattle.std.specs.Prelude.{◌≡◌, ℕ, ◌+◌, ◌-◌, ◌*◌, ◌<◌, ◌≤◌, List, slice_index};
 ghost use Rattle.ballot_base.specs.Limits.{most_candidates, worth_limit};
 ghost use Rattle.ballot_base.specs.Lists.{IsIncreasing};
 ghost use Rattle.tie_walk.specs.Ceilings.{IsBound, greatest_sum};
@@ -41,17 +41,6 @@ pub trait Tally {
         requires fits { left ≤ candidates self.now - c }
         ensures value { result ≡ bound_of self.now c set left }
         ensures law { IsBound (value_of self.now) (candidates self.now) c set left result };
-
-    /// A good committee of size k to begin with, if the tally knows one. The search for the highest value passes over
-    /// all that is no better. Any committee is right; the better it is, the less is searched. If the tally knows none,
-    /// the search makes its own.
-    fn good_committee(&self, k: u8) -> Option<CandSet>
-        requires some { 1 ≤ k }
-        requires fits { k ≤ candidates self.now }
-        ensures { MatchOption result ⊤ (λ set. IsIncreasing 1 (candidates self.now) set × (length set ≡ k)) }
-    {
-        None
-    }
 }
 
 /// The highest sum of the worths of `left` of the candidates from c + 1 to m.

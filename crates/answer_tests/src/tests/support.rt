@@ -249,10 +249,6 @@ impl<'a, S: Searchable> Tally for CountedSearch<'a, S> {
     fn bound(&self, c: u8, set: CandSet, left: u8) -> u128 {
         self.search.bound(c, set, left)
     }
-
-    fn good_committee(&self, k: u8) -> Option<CandSet> {
-        self.search.good_committee(k)
-    }
 }
 
 impl<'a, S: Searchable> WithClones for CountedSearch<'a, S> {
@@ -264,6 +260,10 @@ impl<'a, S: Searchable> WithClones for CountedSearch<'a, S> {
 }
 
 impl<'a, S: Searchable> Searchable for CountedSearch<'a, S> {
+    fn good_committee(&self, k: u8) -> Option<CandSet> {
+        self.search.good_committee(k)
+    }
+
     fn find(&self, node: &Node, least: u128) -> Option<CandSet> {
         count(self.finds);
         self.search.find(node, least)

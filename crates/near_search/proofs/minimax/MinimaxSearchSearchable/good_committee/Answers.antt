@@ -4,7 +4,7 @@ use Rattle.std.specs.Prelude.{MatchOption, ⊤}
 use Rattle.std.specs.Bool.{then_some}
 use Rattle.ballot_base.specs.Lists.{IsIncreasing}
 use Rattle.row_bounds.proofs.CompletionLemmas.{candidates-among}
-use Rattle.near_search.proofs.minimax.MinimaxSearchTally.good_committee.Goals as goal
+use Rattle.near_search.proofs.minimax.MinimaxSearchSearchable.good_committee.Goals as goal
 
 if-true : (P : List ℕ → Type 0) (holds : Bool) (set : List ℕ) → (holds ≡ true → P set) → MatchOption (then_some holds set) ⊤ P
 if-true P true set is = is refl

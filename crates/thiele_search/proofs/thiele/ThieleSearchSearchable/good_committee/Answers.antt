@@ -5,7 +5,7 @@ use Rattle.std.proofs.lemmas.Bool.{eqb-true}
 use Rattle.ballot_base.specs.Lists.{IsIncreasing}
 use Rattle.tie_walk.specs.Values.{Thiele}
 use Rattle.row_bounds.proofs.CompletionLemmas.{candidates-among}
-use Rattle.thiele_search.proofs.thiele.ThieleSearchTally.good_committee.Goals as goal
+use Rattle.thiele_search.proofs.thiele.ThieleSearchSearchable.good_committee.Goals as goal
 
 -- what is given is there under the condition
 some-if : (b : Bool) (set : List ℕ) (Is : List ℕ → Type 0) → (b ≡ true → Is set) → (answer : Option (List ℕ)) → answer ≡ then_some b set → MatchOption answer ⊤ Is
