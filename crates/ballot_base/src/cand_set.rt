@@ -1,15 +1,21 @@
 //! Sets of candidates, each stored in one word.
-ghost use Rattle.std.specs.Prelude.{◌≡◌, ℕ, ◌+◌, ◌-◌, ◌^◌, ◌<◌, ◌≤◌, ◌↔◌, List, [], ◌∷◌, not, length, count_by, IsTrue, MatchOption, SomeIff};
+ghost use Rattle.std.specs.Prelude.{◌≡◌, ℕ, ◌+◌, ◌-◌, ◌^◌, ◌<◌, ◌≤◌, ◌↔◌, List, [], ◌∷◌, not, length, count_by, IsTrue, MatchOption, SomeIff, Some, refl};
 ghost use Rattle.std.specs.Int.{bit_at};
 ghost use Rattle.std.specs.List.{range_with_len};
 ghost use Rattle.std.specs.Iterator.{YieldsFirst, item_count};
-ghost use Rattle.std.specs.Cmp.Lexicographic.{slice_cmp};
+ghost use Rattle.std.specs.Cmp.Lexicographic.{slice_cmp, texts_po, nat_list_cmp_total, texts_ties};
 ghost use Rattle.std.specs.Ordering.{nat_cmp};
 ghost use Rattle.ballot_base.specs.Limits.{most_candidates};
 ghost use Rattle.ballot_base.specs.Lists.{IsIncreasing};
 ghost use Rattle.ballot_base.specs.CandSet.{has_member, with_member, without_member, members_upto};
 ghost use Rattle.ballot_base.specs.CandSet.{common_members, either_members, other_members, includes};
 ghost use Rattle.ballot_base.specs.Steps.Subsets.{IsLastSet, IsNextSet};
+ghost use Rattle.ballot_base.specs.Steps.Bits.{members, bits_of, bits_of_members, bits_of_same};
+ghost use Rattle.std.proofs.Common.{ap};
+ghost use Rattle.std.specs.Str.{bytes_eq};
+ghost use Rattle.std.specs.Cmp.{partial_equiv_from_equiv};
+ghost use Rattle.std.proofs.lemmas.Cmp.{nat_list_eq_equiv};
+ghost use Rattle.std.specs.Hash.{u64 as word_input};
 
 use crate::limits::MOST_CANDIDATES;
 use std::cmp::Ordering;
@@ -25,11 +31,6 @@ pub struct CandSet {
 }
 
 impl Model for CandSet {
-    ghost use Rattle.std.specs.Prelude.{ℕ, ◌^◌, ◌<◌, List};
-    ghost use Rattle.ballot_base.specs.Limits.{most_candidates};
-    ghost use Rattle.ballot_base.specs.Steps.Bits.{members, bits_of, bits_of_members};
-    ghost use Rattle.std.proofs.Common.{ap};
-
     ghost Value = { List ℕ };
 
     ghost view = { λ set. members set.bits };
@@ -42,10 +43,6 @@ impl Model for CandSet {
 }
 
 impl PartialEq for CandSet {
-    ghost use Rattle.std.specs.Str.{bytes_eq};
-    ghost use Rattle.std.specs.Cmp.{partial_equiv_from_equiv};
-    ghost use Rattle.std.proofs.lemmas.Cmp.{nat_list_eq_equiv};
-
     ghost eq = { bytes_eq };
 
     ghost laws = { partial_equiv_from_equiv nat_list_eq_equiv };
@@ -56,16 +53,10 @@ impl PartialEq for CandSet {
 }
 
 impl Eq for CandSet {
-    ghost use Rattle.std.proofs.lemmas.Cmp.{nat_list_eq_equiv};
-
     ghost laws = { nat_list_eq_equiv };
 }
 
 impl PartialOrd for CandSet {
-    ghost use Rattle.std.specs.Prelude.{Some};
-    ghost use Rattle.std.specs.Cmp.Lexicographic.{slice_cmp, texts_po};
-    ghost use Rattle.std.specs.Ordering.{nat_cmp};
-
     ghost partial_cmp = { λ set other. Some (slice_cmp nat_cmp set other) };
 
     ghost laws = { texts_po };
@@ -77,10 +68,6 @@ impl PartialOrd for CandSet {
 
 /// The order of `cmp_lex`.
 impl Ord for CandSet {
-    ghost use Rattle.std.specs.Prelude.{refl};
-    ghost use Rattle.std.specs.Cmp.Lexicographic.{slice_cmp, nat_list_cmp_total, texts_ties};
-    ghost use Rattle.std.specs.Ordering.{nat_cmp};
-
     ghost cmp = { slice_cmp nat_cmp };
 
     ghost total = { nat_list_cmp_total };
@@ -95,10 +82,6 @@ impl Ord for CandSet {
 }
 
 impl Hash for CandSet {
-    ghost use Rattle.std.specs.Hash.{u64 as word_input};
-    ghost use Rattle.std.proofs.Common.{ap};
-    ghost use Rattle.ballot_base.specs.Steps.Bits.{bits_of, bits_of_same};
-
     ghost hash_input = { λ set. word_input (bits_of set) };
 
     ghost respects_eq = { λ set other same. ap word_input (bits_of_same set other same) };
@@ -158,13 +141,6 @@ impl CandSet {
             last = *n;
         }
         Some(set)
-    }
-
-    /// Does nothing. Its contract says which lists are sets; only tests call it.
-    pub fn valid(self)
-        ensures { IsIncreasing 1 most_candidates self }
-    {
-        let _bits = self.bits;
     }
 
     /// Whether the candidate is a member. Any number may be given.
@@ -338,10 +314,6 @@ pub struct Members {
 }
 
 impl Model for Members {
-    ghost use Rattle.std.specs.Prelude.{ℕ, ◌^◌, ◌<◌, List};
-    ghost use Rattle.ballot_base.specs.Limits.{most_candidates};
-    ghost use Rattle.ballot_base.specs.Steps.Bits.{members};
-
     ghost Value = { List ℕ };
 
     ghost view = { λ iterator. members iterator.bits };

@@ -2,7 +2,7 @@
 //!
 //! Clones are interchangeable: with one in the place of another, each voter has as many approved members as before. So
 //! searches and checks try one candidate of a class and then leave out the others.
-ghost use Rattle.std.specs.Prelude.{◌≡◌, ◌≤◌, [], slice_index_or};
+ghost use Rattle.std.specs.Prelude.{◌≡◌, ◌≤◌, [], slice_index_or, ℕ, List};
 ghost use Rattle.ballot_base.specs.Clones.{AreClones, clones_among};
 ghost use Rattle.ballot_base.specs.Limits.{most_candidates};
 
@@ -19,8 +19,6 @@ pub struct Clones {
 }
 
 impl Model for Clones {
-    ghost use Rattle.std.specs.Prelude.{ℕ, List};
-
     ghost Value = { List (List ℕ) };
 
     ghost view = { λ c. c.classes };

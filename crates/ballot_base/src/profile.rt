@@ -3,8 +3,8 @@ ghost use Rattle.std.specs.Prelude.{◌≡◌, ◌≢◌, ◌+◌, ◌-◌, ◌<
 ghost use Rattle.std.specs.Prelude.{Some, Err, IsErr, IfOk, IfErr, OnOk, OnErr};
 ghost use Rattle.ballot_base.specs.Limits.{most_candidates, most_voters};
 ghost use Rattle.ballot_base.specs.Lists.{IsIncreasing};
-ghost use Rattle.ballot_base.specs.Ballots.{IsElection, election, name_of, voter_count, has_ballot, with_votes};
-ghost use Rattle.ballot_base.specs.Steps.Profiles.{texts};
+ghost use Rattle.ballot_base.specs.Ballots.{IsElection, election, name_of, voter_count, has_ballot, with_votes, Election};
+ghost use Rattle.ballot_base.specs.Steps.Profiles.{texts, IsCounted};
 
 use crate::cand_set::CandSet;
 use crate::hashing::BallotHashing;
@@ -42,9 +42,6 @@ pub struct ProfileBuilder<A: Allocator + Copy = Global> {
 }
 
 impl<A: Allocator + Copy> Model for ProfileBuilder<A> {
-    ghost use Rattle.ballot_base.specs.Ballots.{Election, election};
-    ghost use Rattle.ballot_base.specs.Steps.Profiles.{texts, IsCounted};
-
     ghost Value = { Election };
 
     ghost view = { λ b. election b.m (texts b.names.items) b.rows };
@@ -145,18 +142,7 @@ impl<A: Allocator + Copy + Drop> ProfileBuilder<A> {
         if self.rows.is_empty() {
             return Err((FinishFault::NoVoters, self));
         }
-        let ProfileBuilder {
-            m,
-            names,
-            voters,
-            rows,
-        } = self;
-        Ok(Profile {
-            m,
-            names,
-            voters,
-            rows,
-        })
+        Ok(Profile { built: self })
     }
 }
 
@@ -184,23 +170,15 @@ fn no_names<A: Allocator + Copy + Drop>(alloc: A, m: u8) -> Result<Names<A>, All
 /// A profile of approval ballots over the candidates 1 to m, with 1 to `MOST_VOTERS` voters.
 #[derive(Drop)]
 pub struct Profile<A: Allocator + Copy = Global> {
-    m: u8,
-    names: Names<A>,
-    voters: u64,
-    rows: Rows<A>,
+    built: ProfileBuilder<A>,
 }
 
 impl<A: Allocator + Copy> Model for Profile<A> {
-    ghost use Rattle.std.specs.Prelude.{◌≢◌, []};
-    ghost use Rattle.ballot_base.specs.Ballots.{Election, election};
-    ghost use Rattle.ballot_base.specs.Steps.Profiles.{texts, IsCounted};
-
     ghost Value = { Election };
 
-    ghost view = { λ b. election b.m (texts b.names.items) b.rows };
+    ghost view = { λ profile. profile.built };
 
-    ghost invariant = { λ b. IsCounted (election b.m (texts b.names.items) b.rows) b.voters
-        × (b.rows ≢ []) };
+    ghost invariant = { λ profile. profile.built.rows ≢ [] };
 }
 
 impl<A: Allocator + Copy> Profile<A> {
@@ -209,7 +187,7 @@ impl<A: Allocator + Copy> Profile<A> {
         ensures value { result ≡ self.now.m }
         ensures valid { IsElection self.now }
     {
-        self.m
+        self.built.m
     }
 
     /// The name of a candidate, if it has one: bytes that need not be text. Any number may be given; 0 and numbers
@@ -218,10 +196,10 @@ impl<A: Allocator + Copy> Profile<A> {
         ensures value { option_map (λ name. name.now) result ≡ name_of self.now n }
         ensures valid { IsElection self.now }
     {
-        if n == 0 || n > self.m {
+        if n == 0 || n > self.built.m {
             return None;
         }
-        let name = self.names[usize::from(n) - 1].as_slice();
+        let name = self.built.names[usize::from(n) - 1].as_slice();
         if name.is_empty() { None } else { Some(name) }
     }
 
@@ -231,7 +209,7 @@ impl<A: Allocator + Copy> Profile<A> {
         ensures some { 1 ≤ result }
         ensures valid { IsElection self.now }
     {
-        self.rows.len()
+        self.built.rows.len()
     }
 
     /// The ballot at place i, counted from 0, in the order of first appearance, and the number of voters who cast it.
@@ -239,7 +217,7 @@ impl<A: Allocator + Copy> Profile<A> {
         requires { i < length self.now.rows }
         ensures { slice_get self.now.rows i ≡ Some result }
     {
-        self.rows.row(i)
+        self.built.rows.row(i)
     }
 
     /// The different ballots, in the order of first appearance, each with the number of voters who cast it.
@@ -247,7 +225,7 @@ impl<A: Allocator + Copy> Profile<A> {
         ensures rows { result ≡ self.now.rows }
         ensures valid { IsElection self.now }
     {
-        self.rows.ballots()
+        self.built.rows.ballots()
     }
 
     /// The number of voters, 1 to `MOST_VOTERS`.
@@ -256,6 +234,6 @@ impl<A: Allocator + Copy> Profile<A> {
         ensures some { 1 ≤ result }
         ensures most { result ≤ most_voters }
     {
-        self.voters
+        self.built.voters
     }
 }

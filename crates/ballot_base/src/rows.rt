@@ -18,9 +18,6 @@ pub(crate) struct Rows<A: Allocator + Copy> {
 }
 
 impl<A: Allocator + Copy> Model for Rows<A> {
-    ghost use Rattle.std.specs.Prelude.{List};
-    ghost use Rattle.ballot_base.specs.Ballots.{Row};
-
     ghost Value = { List Row };
 
     ghost view = { λ rows. rows.map.entries };
@@ -94,9 +91,6 @@ pub struct Ballots<'a> {
 }
 
 impl<'a> Model for Ballots<'a> {
-    ghost use Rattle.std.specs.Prelude.{List};
-    ghost use Rattle.ballot_base.specs.Ballots.{Row};
-
     ghost Value = { List Row };
 
     ghost view = { λ ballots. ballots.rows };

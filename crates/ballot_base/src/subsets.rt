@@ -4,6 +4,7 @@ ghost use Rattle.std.specs.Prelude.{◌≡◌, ℕ, ◌≤◌, List, Some, lengt
 ghost use Rattle.std.specs.Iterator.{YieldsFirst, item_count};
 ghost use Rattle.ballot_base.specs.Limits.{most_candidates};
 ghost use Rattle.ballot_base.specs.Lists.{IsIncreasing, increasing_lists, later_than};
+ghost use Rattle.ballot_base.specs.Steps.Subsets.{sets_from, MayComeNext};
 
 use crate::cand_set::CandSet;
 use std::marker::Model;
@@ -17,9 +18,6 @@ pub struct KSets {
 }
 
 impl Model for KSets {
-    ghost use Rattle.std.specs.Prelude.{ℕ, List};
-    ghost use Rattle.ballot_base.specs.Steps.Subsets.{sets_from, MayComeNext};
-
     ghost Value = { List (List ℕ) };
 
     ghost view = { λ walk. sets_from walk.m walk.next };

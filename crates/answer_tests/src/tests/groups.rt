@@ -66,7 +66,7 @@ fn with_clones(set: CandSet, firsts: &[u8; 5]) -> CandSet {
 fn election_of(rt: &impl Abort, alloc: Global, ballots: &[(CandSet, u64)]) -> Profile {
     let mut builder = ProfileBuilder::new(alloc, MOST_CANDIDATES).expect(rt, "memory");
     for (ballot, voters) in ballots {
-        ballot.valid();
+        prove!(ballot.len() <= MOST_CANDIDATES);
         builder
             .add(*ballot, (*voters).max(1))
             .expect(rt, "a ballot");

@@ -48,7 +48,7 @@ fn add<A: Allocator + Copy + Drop>(
     ensures { builder.new.m ≡ most_candidates }
 {
     let ballot = CandSet::of_list(list).unwrap_or(CandSet::empty());
-    ballot.valid();
+    prove!(ballot.len() <= MOST_CANDIDATES);
     builder.add(ballot, voters.max(1))
 }
 
