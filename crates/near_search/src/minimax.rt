@@ -1,8 +1,9 @@
 //! Minimax approval voting as values that can be searched.
 ghost use Rattle.std.specs.Prelude.{◌≡◌, IfOk};
-ghost use Rattle.ballot_base.specs.Clones.{clones_among};
+ghost use Rattle.ballot_base.specs.Clones.{clones_among, AreClones};
 ghost use Rattle.tie_walk.specs.Ceilings.{closeness_upto};
 ghost use Rattle.tie_walk.specs.Values.{closeness};
+ghost use Rattle.ballot_base.specs.Ballots.{Election, IsElection};
 
 use crate::good::near_committee;
 use crate::weights::{FIRST_WEIGHT, Shares};
@@ -27,9 +28,6 @@ pub struct MinimaxSearch<'a, A: Allocator + Copy = Global> {
 }
 
 impl<'a, A: Allocator + Copy> Model for MinimaxSearch<'a, A> {
-    ghost use Rattle.ballot_base.specs.Ballots.{Election, IsElection};
-    ghost use Rattle.ballot_base.specs.Clones.{AreClones};
-
     ghost Value = { Election };
 
     ghost view = { λ t. t.profile.now };

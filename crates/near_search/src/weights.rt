@@ -5,10 +5,11 @@
 //! constraints, 1968). Any weights are right. A ballot weighs by the share that it needs of its free candidates. If
 //! that pays, weights are moved instead (`row_bounds::multipliers`). With weights by the share, 64 candidates and 20
 //! seats did not end within 12 s if voters and candidates lie on a line. With moved ones they take 0.01 s.
-ghost use Rattle.std.specs.Prelude.{ℕ, ◌^◌, ◌≤◌, slice_index};
+ghost use Rattle.std.specs.Prelude.{ℕ, ◌^◌, ◌≤◌, slice_index, ◌-◌};
 ghost use Rattle.ballot_base.specs.Limits.{most_candidates};
 ghost use Rattle.row_bounds.specs.Completions.{IsNode};
 ghost use Rattle.near_search.specs.Steps.Near.{NarrowsNear, share_parts};
+ghost use Rattle.tie_walk.specs.Values.{closeness};
 
 use crate::needs::still_needed;
 use ballot_base::{CandSet, PLACES, Profile, Worths};
@@ -121,9 +122,6 @@ impl<A: Allocator + Copy> NeedSearch<'_, A> {
 }
 
 impl<A: Allocator + Copy> RowBound for NeedSearch<'_, A> {
-    ghost use Rattle.std.specs.Prelude.{◌-◌};
-    ghost use Rattle.tie_walk.specs.Values.{closeness};
-
     ghost candidates = { λ search. search.profile.now.m };
 
     ghost value_of = { λ search set. closeness search.profile.now.m search.profile.now.rows set };

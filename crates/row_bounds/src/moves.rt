@@ -3,14 +3,11 @@
 //! A bound over rows has a multiplier for each row. Any multipliers are right, and some rounds over the rows can move
 //! them so that the bound ends a node. A round costs work. So a search counts what moves achieve and what they cost, by
 //! the number of seats left, and moves where they save work. Nothing is proved of these counts.
-ghost use Rattle.std.specs.Prelude.{⊤};
-
 use crate::multipliers::Moved;
 use crate::node::Node;
-use ballot_base::{CandSet, PLACES};
+use ballot_base::{CandSet, MOST_MEMBERS};
 use std::array;
 use std::cell::Cell;
-use std::marker::Model;
 
 /// What a move achieved is counted in parts of this number; a node that ended is all of them. Means are in such parts
 /// of one as well.
@@ -29,24 +26,21 @@ const TRIALS_OF_MOVES: u64 = 4;
 /// ended, it was too high, and 40 random candidates took fifteen times as long under `cc`.
 const LEFT_ALONE: u32 = 16;
 
+/// There is a level for each number of seats left.
+const LEVELS: usize = MOST_MEMBERS as usize + 1;
+
 /// A mean is of about this many numbers, the last ones, so that old ones are forgotten.
 const MEMORY: u64 = 50;
 
-/// What moves of multipliers achieve, and what they cost, by the number of seats left. The unit of work is a visit to a
-/// set. Contracts see nothing of them.
+/// What moves of multipliers achieve, and what they cost, by the number of seats left. With more than `MOST_MEMBERS`
+/// seats left nothing is moved. The unit of work is a visit to a set.
 #[derive(Drop)]
 pub struct Moves {
     // The work of a round over the rows.
     round: u64,
     // All work of the search so far.
     done: Cell<u64>,
-    levels: [Cell<Level>; PLACES],
-}
-
-impl Model for Moves {
-    ghost Value = { ⊤ };
-
-    ghost view = { λ _. tt };
+    levels: [Cell<Level>; LEVELS],
 }
 
 impl Moves {
@@ -68,16 +62,12 @@ impl Moves {
     /// seats left or fewer was below the earlier node.
     pub fn enter(&self, left: u8) {
         let done = self.done.get();
-        for place in self.levels.iter().take(usize::from(left) + 1) {
-            let mut level = place.get();
-            level.close(done);
-            place.set(level);
+        for level in self.levels.iter().take(usize::from(left) + 1) {
+            level.update(|level| level.closed(done));
         }
         let has_begun = self.has_begun();
-        if let Some(place) = self.levels.get(usize::from(left)) {
-            let mut level = place.get();
-            level.enter(done, has_begun);
-            place.set(level);
+        if let Some(level) = self.levels.get(usize::from(left)) {
+            level.update(|level| level.entered(done, has_begun));
         }
     }
 
@@ -88,32 +78,31 @@ impl Moves {
 
     /// Counts the work of rounds over the rows, or of a visit if there were none.
     pub fn work(&self, rounds: u32) {
-        let more = if rounds == 0 {
-            1
-        } else {
-            self.round.saturating_mul(u64::from(rounds))
-        };
-        self.done.set(self.done.get().saturating_add(more));
+        let work = self.cost(rounds).max(1);
+        self.done.update(|done| done.saturating_add(work));
+    }
+
+    fn cost(&self, rounds: u32) -> u64 {
+        self.round.saturating_mul(u64::from(rounds))
     }
 
     /// Whether to move multipliers at the node that was entered last, with `left` seats left.
     pub fn are_due(&self, left: u8) -> bool {
-        self.has_begun()
-            && match self.levels.get(usize::from(left)) {
-                Some(level) => level.get().is_due(),
-                None => false,
-            }
+        let level = self.levels.get(usize::from(left));
+        self.has_begun() && level.is_some_and(|level| level.get().is_due())
     }
 
     /// Notes a move at the node that was entered last, and counts its rounds as work.
     pub fn note(&self, node: &Node, moved: &Moved) {
         self.work(moved.rounds);
-        let cost = self.round.saturating_mul(u64::from(moved.rounds));
-        if let Some(place) = self.levels.get(usize::from(node.left)) {
-            let mut level = place.get();
-            level.success.note(achieved(node.free, moved.free));
-            level.cost.note(cost.saturating_mul(PARTS));
-            place.set(level);
+        let cost = self.cost(moved.rounds).saturating_mul(PARTS);
+        let achieved = achieved(node.free, moved.free);
+        if let Some(level) = self.levels.get(usize::from(node.left)) {
+            level.update(|level| Level {
+                success: level.success.with(achieved),
+                cost: level.cost.with(cost),
+                ..level
+            });
         }
     }
 }
@@ -140,22 +129,29 @@ impl Level {
         open: None,
     };
 
-    /// Ends the count of the work below a node.
-    fn close(&mut self, done: u64) {
-        if let Some(before) = self.open.take() {
-            // A count of an earlier search ends without a number.
-            if let Some(work) = done.checked_sub(before) {
-                self.below.note(work.saturating_mul(PARTS));
-            }
+    /// Ends the count of the work below a node. A count of an earlier search ends without a number.
+    fn closed(self, done: u64) -> Level {
+        let below = match self.open.and_then(|before| done.checked_sub(before)) {
+            Some(work) => self.below.with(work.saturating_mul(PARTS)),
+            None => self.below,
+        };
+        Level {
+            below,
+            open: None,
+            ..self
         }
     }
 
     /// Enters a node. The work below it is counted only if nothing is moved there: a node that moves do not end has
     /// more work below it than most.
-    fn enter(&mut self, done: u64, has_begun: bool) {
-        self.nodes = self.nodes.wrapping_add(1);
-        let is_moved = has_begun && self.is_due();
-        self.open = (!is_moved).then_some(done);
+    fn entered(self, done: u64, has_begun: bool) -> Level {
+        let nodes = self.nodes.wrapping_add(1);
+        let level = Level { nodes, ..self };
+        let is_moved = has_begun && level.is_due();
+        Level {
+            open: (!is_moved).then_some(done),
+            ..level
+        }
     }
 
     /// Whether moves save as much work as they cost, or are to be tried.
@@ -178,10 +174,13 @@ struct Mean {
 impl Mean {
     const NONE: Mean = Mean { count: 0, value: 0 };
 
-    fn note(&mut self, number: u64) {
-        self.count = MEMORY.min(self.count.saturating_add(1));
-        let others = self.value.saturating_mul(self.count.saturating_sub(1));
-        self.value = others.saturating_add(number) / self.count;
+    fn with(self, number: u64) -> Mean {
+        let count = MEMORY.min(self.count.saturating_add(1));
+        let others = self.value.saturating_mul(count.saturating_sub(1));
+        Mean {
+            count,
+            value: others.saturating_add(number) / count,
+        }
     }
 }
 

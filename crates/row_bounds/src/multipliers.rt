@@ -5,7 +5,7 @@
 //! the candidates of the highest worths hit its ballot less often than they should, and falls if more often. One array
 //! has the multipliers of a whole search. They are changed in place and never restored when the search goes back: any
 //! multipliers are right, and the last ones are a good beginning for the next node. Nothing but their range is proved.
-ghost use Rattle.std.specs.Prelude.{◌≡◌, ℕ, List, ◌<◌, ◌≤◌, IfOk, MatchOption};
+ghost use Rattle.std.specs.Prelude.{◌≡◌, ℕ, List, ◌<◌, ◌≤◌, IfOk, MatchOption, length};
 ghost use Rattle.ballot_base.specs.Limits.{most_candidates};
 ghost use Rattle.row_bounds.specs.Completions.{IsNode};
 ghost use Rattle.row_bounds.specs.Limits.{most_rows};
@@ -197,6 +197,16 @@ impl Multiplier {
             direction: 0,
         }
     }
+
+    fn moved(self, length: u64) -> Multiplier {
+        let way = length.saturating_mul(self.direction.unsigned_abs());
+        let now = if self.direction > 0 {
+            self.now.saturating_add(way)
+        } else {
+            self.now.saturating_sub(way)
+        };
+        Multiplier { now, ..self }
+    }
 }
 
 /// A multiplier for each row. Contracts see the number of rows.
@@ -206,8 +216,6 @@ pub struct Multipliers<A: Allocator> {
 }
 
 impl<A: Allocator> Model for Multipliers<A> {
-    ghost use Rattle.std.specs.Prelude.{ℕ, length};
-
     ghost Value = { ℕ };
 
     ghost view = { λ multipliers. length multipliers.rows.items };
@@ -272,9 +280,8 @@ impl<A: Allocator> Multipliers<A> {
 
     /// Keeps the multipliers, whose gap is the smallest so far.
     fn keep(&self) {
-        for row in self.rows.iter() {
-            let multiplier = row.get();
-            row.set(Multiplier {
+        for row in &self.rows {
+            row.update(|multiplier| Multiplier {
                 lowest: multiplier.now,
                 ..multiplier
             });
@@ -283,22 +290,15 @@ impl<A: Allocator> Multipliers<A> {
 
     /// Goes back to the multipliers with which the gap was the smallest.
     fn restore(&self) {
-        for row in self.rows.iter() {
-            row.set(Multiplier::at(row.get().lowest));
+        for row in &self.rows {
+            row.update(|multiplier| Multiplier::at(multiplier.lowest));
         }
     }
 
     /// Moves each multiplier by its direction, times `length`.
     fn step(&self, length: u64) {
-        for row in self.rows.iter() {
-            let multiplier = row.get();
-            let way = length.saturating_mul(multiplier.direction.unsigned_abs());
-            let now = if multiplier.direction > 0 {
-                multiplier.now.saturating_add(way)
-            } else {
-                multiplier.now.saturating_sub(way)
-            };
-            row.set(Multiplier { now, ..multiplier });
+        for row in &self.rows {
+            row.update(|multiplier| multiplier.moved(length));
         }
     }
 }

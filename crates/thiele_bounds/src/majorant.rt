@@ -8,6 +8,7 @@ ghost use Rattle.ballot_base.specs.Limits.{most_candidates, most_members};
 ghost use Rattle.ballot_base.specs.Increments.{increments};
 ghost use Rattle.thiele_bounds.specs.Steps.Paired.{AreSums, IsMajorantOf};
 ghost use Rattle.thiele_bounds.specs.Steps.Units.{most_given, most_given_to_pairs, most_units};
+ghost use Rattle.thiele_bounds.specs.Steps.Majorants.{AreMajorants, Majorized};
 
 use ballot_base::{Increments, PLACES, ThieleRule};
 use std::marker::Model;
@@ -180,10 +181,6 @@ pub(crate) struct Majorants<'a> {
 }
 
 impl<'a> Model for Majorants<'a> {
-    ghost use Rattle.std.specs.Prelude.{ℕ, ◌≤◌, slice_index};
-    ghost use Rattle.thiele_bounds.specs.Steps.Majorants.{AreMajorants, Majorized};
-    ghost use Rattle.thiele_bounds.specs.Steps.Units.{most_given_to_pairs};
-
     ghost Value = { Majorized };
 
     ghost view = { λ t. record { sums = t.sums.now; left = t.left } };

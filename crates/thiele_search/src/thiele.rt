@@ -3,10 +3,10 @@ ghost use Rattle.std.specs.Prelude.{◌≡◌, ◌≤◌, IfOk};
 ghost use Rattle.ballot_base.specs.Clones.{clones_among};
 ghost use Rattle.ballot_base.specs.Lists.{IsIncreasing};
 ghost use Rattle.ballot_base.specs.Limits.{most_members};
-ghost use Rattle.tie_walk.specs.Values.{tally_value, thiele_of};
+ghost use Rattle.tie_walk.specs.Values.{tally_value, thiele_of, Thiele};
 ghost use Rattle.tie_walk.specs.Winners.{best_value};
 ghost use Rattle.tie_walk.specs.Ceilings.{ceiling};
-ghost use Rattle.thiele_search.specs.Steps.Aided.{IsAided};
+ghost use Rattle.thiele_search.specs.Steps.Aided.{IsAided, IsMemoryFor};
 
 use crate::columns::Columns;
 use crate::dominance::Dominance;
@@ -34,10 +34,6 @@ pub struct SearchMemory<'a, A: Allocator + Copy = Global> {
 }
 
 impl<'a, A: Allocator + Copy> Model for SearchMemory<'a, A> {
-    ghost use Rattle.std.specs.Prelude.{◌≡◌};
-    ghost use Rattle.tie_walk.specs.Values.{Thiele};
-    ghost use Rattle.thiele_search.specs.Steps.Aided.{IsMemoryFor};
-
     ghost Value = { Thiele };
 
     ghost view = { λ t. t.values };
@@ -86,10 +82,6 @@ pub struct ThieleSearch<'a, A: Allocator + Copy = Global> {
 }
 
 impl<'a, A: Allocator + Copy> Model for ThieleSearch<'a, A> {
-    ghost use Rattle.std.specs.Prelude.{◌≡◌};
-    ghost use Rattle.tie_walk.specs.Values.{Thiele};
-    ghost use Rattle.thiele_search.specs.Steps.Aided.{IsAided};
-
     ghost Value = { Thiele };
 
     ghost view = { λ t. t.values };
