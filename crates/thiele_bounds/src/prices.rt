@@ -20,7 +20,7 @@ ghost use Rattle.thiele_bounds.specs.Steps.Priced.{ArePrices};
 ghost use Rattle.thiele_bounds.specs.Steps.Totals.{BoundNode};
 
 use crate::majorant::HitSums;
-use ballot_base::{CandSet, Profile, Worths};
+use ballot_base::{CandSet, Worths};
 use row_bounds::Node;
 use row_bounds::multipliers::{self, Constraint, Effort, Gap, Multipliers, RowBound};
 use std::alloc::Allocator;
@@ -58,17 +58,15 @@ fn root(units: u128) -> Effort {
     }
 }
 
-/// What a search looks for by prices: the ballots, what hits give, a multiplier for each row, and the value that a
-/// committee has to reach.
+/// What a search looks for by prices: the values of committees, what hits give, a multiplier for each row, and the
+/// value that a committee has to reach.
 #[derive(Drop)]
 pub struct PriceSearch<'a, A: Allocator + Copy> {
-    pub profile: &'a Profile<A>,
     pub tally: &'a ThieleTally<'a, A>,
     pub given: &'a HitSums,
     pub multipliers: &'a Multipliers<A>,
     pub least: u128,
-    ghost size: { profile.now.m ≤ most_candidates },
-    ghost ballots: { profile.now ≡ tally.now.election },
+    ghost size: { tally.now.election.m ≤ most_candidates },
     ghost sums: { AreSums (increments tally.now.rule tally.now.k) given.now.scale given.now.unit given.now.sums },
 }
 
@@ -82,15 +80,16 @@ pub struct Prices {
 impl<A: Allocator + Copy> PriceSearch<'_, A> {
     /// The prices at a node, by the present multipliers.
     fn prices(&self, node: &Node) -> Prices
-        requires is_node { IsNode self.now.profile.now.m node.now.set node.now.free }
-        ensures totals { BoundNode self.now.given.now self.now.profile.now node.now result.kept result.worths [] }
+        requires is_node { IsNode self.now.tally.now.election.m node.now.set node.now.free }
+        ensures totals { BoundNode self.now.given.now self.now.tally.now.election node.now result.kept result.worths [] }
         ensures kept { result.kept ≤ most_priced }
         ensures worths { (n : ℕ) → slice_index result.worths n ≤ most_priced }
     {
         let mut kept = 0;
         let mut worths = Worths::none();
-        for i in 0..self.profile.rows() {
-            let (ballot, voters) = self.profile.row(i);
+        let profile = self.tally.profile();
+        for i in 0..profile.rows() {
+            let (ballot, voters) = profile.row(i);
             let approved = ballot.common(node.free);
             let before = ballot.common(node.set).len();
             let most = node.left.min(approved.len());
@@ -115,8 +114,9 @@ impl<A: Allocator + Copy> PriceSearch<'_, A> {
 
     /// Begins between the increments of the last hit of a good committee, if there is one, and of the next one.
     fn begin(&self, good: CandSet) {
-        for i in 0..self.profile.rows() {
-            let hits = self.profile.row(i).0.common(good).len();
+        let profile = self.tally.profile();
+        for i in 0..profile.rows() {
+            let hits = profile.row(i).0.common(good).len();
             let next = self.given.increment(hits);
             let last = self.given.increment(hits.saturating_sub(1));
             self.multipliers.begin(i, next / 2 + last / 2);
@@ -125,7 +125,7 @@ impl<A: Allocator + Copy> PriceSearch<'_, A> {
 }
 
 impl<A: Allocator + Copy> RowBound for PriceSearch<'_, A> {
-    ghost candidates = { λ search. search.profile.now.m };
+    ghost candidates = { λ search. search.tally.now.election.m };
 
     ghost value_of = { λ search set. tally_value search.tally.now set };
 
@@ -150,8 +150,9 @@ impl<A: Allocator + Copy> RowBound for PriceSearch<'_, A> {
 
     fn aim(&self, node: &Node, best: CandSet) -> u128 {
         let mut square: u128 = 0;
-        for i in 0..self.profile.rows() {
-            let (ballot, voters) = self.profile.row(i);
+        let profile = self.tally.profile();
+        for i in 0..profile.rows() {
+            let (ballot, voters) = profile.row(i);
             let before = ballot.common(node.set).len();
             let most = node.left.min(ballot.common(node.free).len());
             let hits = ballot.common(best).len();
@@ -183,20 +184,18 @@ impl<A: Allocator + Copy> Priced<A> {
     /// there is no memory for them.
     pub fn of(
         memory: Option<Multipliers<A>>,
-        profile: &Profile<A>,
         values: &ThieleTally<A>,
         k: u8,
         good: CandSet,
     ) -> Option<Priced<A>>
         requires some { 1 ≤ k }
         requires size { k ≤ most_members }
-        requires ballots { profile.now ≡ values.now.election }
         requires k_is { k ≡ values.now.k }
         ensures { MatchOption result ⊤ (ArePrices values.now) }
     {
         let multipliers = memory?;
         let given = HitSums::of(values.rule(), k, UNITS)?;
-        let candidates = CandSet::all(profile.m());
+        let candidates = CandSet::all(values.m());
         let all = Node {
             set: CandSet::empty(),
             value: 0,
@@ -204,7 +203,6 @@ impl<A: Allocator + Copy> Priced<A> {
             left: k,
         };
         let search = PriceSearch {
-            profile,
             tally: values,
             given: &given,
             multipliers: &multipliers,

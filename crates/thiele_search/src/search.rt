@@ -79,7 +79,6 @@ impl<'a, A: Allocator + Copy> ThieleSearch<'a, A> {
         match &self.aids.priced {
             Some(priced) if is_due => {
                 let search = PriceSearch {
-                    profile: self.profile,
                     tally: &self.values,
                     given: &priced.given,
                     multipliers: &priced.multipliers,
@@ -141,7 +140,7 @@ impl<'a, A: Allocator + Copy> ThieleSearch<'a, A> {
         // Counting pairs takes about as long as a round over the rows.
         self.moves.work(u32::from(is_due));
         match &self.aids.sums {
-            Some(given) if is_due => uses.note(pairs::narrowed(self.profile, given, node, least)),
+            Some(given) if is_due => uses.note(pairs::narrowed(self.values.profile(), given, node, least)),
             _ => Some(node.free),
         }
     }

@@ -26,7 +26,6 @@ use tie_walk::{Tally, ThieleTally};
 /// election, the rule and `k`.
 #[derive(Drop)]
 pub struct SearchMemory<'a, A: Allocator + Copy = Global> {
-    profile: &'a Profile<A>,
     values: ThieleTally<'a, A>,
     k: u8,
     columns: Option<Columns<A>>,
@@ -38,8 +37,7 @@ impl<'a, A: Allocator + Copy> Model for SearchMemory<'a, A> {
 
     ghost view = { λ t. t.values };
 
-    ghost invariant = { λ t. (t.profile.now ≡ t.values.election)
-        × IsMemoryFor t.values t.k t.columns };
+    ghost invariant = { λ t. IsMemoryFor t.values t.k t.columns };
 }
 
 impl<'a, A: Allocator + Copy + Drop> SearchMemory<'a, A> {
@@ -57,7 +55,6 @@ impl<'a, A: Allocator + Copy + Drop> SearchMemory<'a, A> {
         ensures { IfOk result (λ memory. memory ≡ thiele_of profile.now rule k) }
     {
         Ok(SearchMemory {
-            profile,
             values: ThieleTally::new(profile, rule, k),
             k,
             columns: Columns::of(alloc, profile, rule, k)?,
@@ -70,7 +67,6 @@ impl<'a, A: Allocator + Copy + Drop> SearchMemory<'a, A> {
 /// rule's increments. Contracts see the election, the rule and `k`.
 #[derive(Drop)]
 pub struct ThieleSearch<'a, A: Allocator + Copy = Global> {
-    pub(crate) profile: &'a Profile<A>,
     pub(crate) values: ThieleTally<'a, A>,
     pub(crate) aids: Aids<A>,
     // A committee to begin with.
@@ -86,7 +82,7 @@ impl<'a, A: Allocator + Copy> Model for ThieleSearch<'a, A> {
 
     ghost view = { λ t. t.values };
 
-    ghost invariant = { λ t. (t.profile.now ≡ t.values.election) × IsAided t.values t.aids };
+    ghost invariant = { λ t. IsAided t.values t.aids };
 }
 
 impl<'a, A: Allocator + Copy + Drop> ThieleSearch<'a, A> {
@@ -95,10 +91,9 @@ impl<'a, A: Allocator + Copy + Drop> ThieleSearch<'a, A> {
     pub fn new(memory: SearchMemory<'a, A>) -> ThieleSearch<'a, A>
         ensures { result ≡ memory.entry }
     {
-        let (profile, k) = (memory.profile, memory.k);
+        let (profile, k) = (memory.values.profile(), memory.k);
         let rule = memory.values.rule();
         let search = ThieleSearch {
-            profile,
             aids: Aids {
                 clones: Clones::of(profile),
                 dominance: Dominance::of(profile, rule, k),
@@ -114,7 +109,7 @@ impl<'a, A: Allocator + Copy + Drop> ThieleSearch<'a, A> {
             moves: Moves::new(profile.rows().div_ceil(32) as u64),
         };
         let good = search.grown(k);
-        let priced = Priced::of(memory.multipliers, profile, &search.values, k, good);
+        let priced = Priced::of(memory.multipliers, &search.values, k, good);
         let aids = search.aids;
         let mut search = ThieleSearch {
             aids: Aids { priced, ..aids },

@@ -64,6 +64,13 @@ impl<'a, A: Allocator + Copy> ThieleTally<'a, A> {
         }
     }
 
+    /// The profile of this tally.
+    pub fn profile(&self) -> &'a Profile<A>
+        ensures { result.now ≡ self.now.election }
+    {
+        self.profile
+    }
+
     /// The rule of this tally.
     pub fn rule(&self) -> ThieleRule
         ensures { result ≡ self.now.rule }

@@ -19,13 +19,13 @@ open-is g c = c.len.ensures.count ∙ ap length c.common-approved.ensures ∙ le
 
 fits : (g : _) (c : After-min-most g) → c.len-before.result + c.min-most.result ≤ 64
 fits g c =
-    let e = c.args.self.now.profile.now in
+    let e = c.profile-profile.result.now in
     omega (
       arith,
       before-is g c,
       open-is g c,
       c.min-most.ensures,
-      hits-both e.m c.row-ballot.result.0 c.args.node.now.set c.args.node.now.free (row-up e c.rows-i-end.ensures.valid c.loop-i.i c.row-ballot.result c.row-ballot.ensures) c.rows-i-end.ensures.valid.most c.requires.is_node,
+      hits-both e.m c.row-ballot.result.0 c.args.node.now.set c.args.node.now.free (row-up e c.rows-i-end.ensures.valid c.loop-i.i c.row-ballot.result c.row-ballot.ensures) c.rows-i-end.ensures.valid.most (rw c.profile-profile.ensures c.requires.is_node),
     )
 
 pub multiplier-multiplier-requires : goal.multiplier-multiplier-requires
@@ -36,7 +36,7 @@ kept-requires-clause-fits g c = fits g (goal.at.kept-requires-clause-fits g c).A
 
 pub loop-i-init : goal.loop-i-init
 loop-i-init g c = record {
-  totals = λ weights are. totals-none weights c.args.self.now.given.now.scale c.args.self.now.given.now.unit c.args.self.now.profile.now.m c.args.self.now.profile.now.rows c.args.node.now.set c.args.node.now.free
+  totals = λ weights are. totals-none weights c.args.self.now.given.now.scale c.args.self.now.given.now.unit c.profile-profile.result.now.m c.profile-profile.result.now.rows c.args.node.now.set c.args.node.now.free
       c.args.node.now.left 0 c.none-worths.result [] record { kept_none = refl; worths_none = c.none-worths.ensures; overlaps_none = λ i j. refl };
   small_kept = omega arith;
   small_worths = λ n. omega (arith, c.none-worths.ensures n);
@@ -46,7 +46,7 @@ pub loop-i-preserved : goal.loop-i-preserved
 loop-i-preserved g c =
     let self = c.args.self.now in
     let given = self.given.now in
-    let e = self.profile.now in
+    let e = c.profile-profile.result.now in
     let set = c.args.node.now.set in
     let free = c.args.node.now.free in
     let row : Row = c.row-ballot.result in
@@ -72,7 +72,7 @@ loop-i-preserved g c =
     let voters = voters-more e valid i row at in
     record {
       totals = λ weights are. subst (λ n. AreTotals weights given.scale given.unit e.m (take (i + 1) e.rows) set free c.args.node.now.left (c.loop-i.kept + n) c.add.new.self []) (sym keeps)
-          (totals-more e valid i row at weights given.sums given.scale given.unit set free c.args.node.now.left c.len-before.result c.min-most.result kept multiplier 0 c.loop-i.kept c.loop-i.worths c.add.new.self [] [] c.requires.is_node are
+          (totals-more e valid i row at weights given.sums given.scale given.unit set free c.args.node.now.left c.len-before.result c.min-most.result kept multiplier 0 c.loop-i.kept c.loop-i.worths c.add.new.self [] [] (rw c.profile-profile.ensures c.requires.is_node) are
           (before-is g after) most (λ h few. omega (arith, c.kept.ensures.bounds h few)) (inv.totals weights are) worths
           (λ a b here there. omega (arith, portion-most (has_member row.0 a) (has_member row.0 b) (row.1 * 0))));
       small_kept = omega (arith, keeps, small_kept, voters, inv.small_kept);

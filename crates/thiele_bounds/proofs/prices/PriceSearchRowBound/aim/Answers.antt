@@ -7,7 +7,7 @@ use Rattle.thiele_bounds.proofs.prices.PriceSearchRowBound.aim.Goals.{After-min-
 -- no ballot has more hits than candidates
 fits : (g : _) (c : After-min-most g) → c.len-before.result + c.min-most.result ≤ 64
 fits g c =
-    let e = c.args.self.now.profile.now in
+    let e = c.profile-profile.result.now in
     let ballot = c.row-ballot.result.0 in
     let node = c.args.node.now in
     let valid = c.rows-i-end.ensures.valid in
@@ -20,7 +20,7 @@ fits g c =
       ap length c.common-in-loop-i.ensures,
       length-common ballot node.free,
       c.min-most.ensures,
-      hits-both e.m ballot node.set node.free (row-up e valid c.loop-i.i c.row-ballot.result c.row-ballot.ensures) valid.most c.requires.is_node,
+      hits-both e.m ballot node.set node.free (row-up e valid c.loop-i.i c.row-ballot.result c.row-ballot.ensures) valid.most (rw c.profile-profile.ensures c.requires.is_node),
     )
 
 pub multiplier-multiplier-requires : goal.multiplier-multiplier-requires

@@ -10,12 +10,12 @@ use Rattle.thiele_bounds.proofs.prices.Priced.of.Goals.{After-empty}
 
 pub value-requires : goal.value-requires
 value-requires g c =
-    rw (c.m.ensures.value, c.requires.ballots) at (candidates-among c.m.result c.all-candidates.result c.args.good c.common.result c.all-candidates.ensures c.common.ensures)
+    rw (c.m.ensures.value) at (candidates-among c.m.result c.all-candidates.result c.args.good c.common.result c.all-candidates.ensures c.common.ensures)
 
 -- all candidates are free
-all-free : (g : _) (c : After-empty g) → IsNode c.args.profile.now.m c.empty.result c.all-candidates.result
+all-free : (g : _) (c : After-empty g) → IsNode c.args.values.now.election.m c.empty.result c.all-candidates.result
 all-free g c =
-    let m = c.args.profile.now.m in
+    let m = c.args.values.now.election.m in
     let up : IsIncreasing 1 m c.all-candidates.result = rw (c.all-candidates.ensures, c.m.ensures.value) (IsIncreasing-range 1 m m (omega arith)) in
     let is_node : IsNode m [] c.all-candidates.result = record { set_within = tt; free_within = up; apart = λ n is. refl } in
     rw c.empty.ensures is_node
@@ -36,5 +36,5 @@ returns g c =
     record {
       k_is = c.requires.k_is;
       sums = sums;
-      totals = rw (c.empty.ensures, c.all-candidates.ensures, c.m.ensures.value, c.requires.ballots, c.requires.k_is) at (c.prices-whole.ensures.totals (increments tally.rule tally.k) sums);
+      totals = rw (c.empty.ensures, c.all-candidates.ensures, c.m.ensures.value, c.requires.k_is) at (c.prices-whole.ensures.totals (increments tally.rule tally.k) sums);
     }
