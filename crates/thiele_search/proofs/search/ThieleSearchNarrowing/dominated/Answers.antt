@@ -24,17 +24,17 @@ not-clones m rows c d low high out = elim (cases_Bool (are_clones rows c d)) [
 
 pub listed : goal.listed
 listed g c =
-    let aids = rw c.self.view_is at c.self.invariant.1 in
+    let aids = rw c.self.view_is at c.self.invariant in
     omega (arith, c.from-4.ensures, aids.election.most, member-high 1 c.args.self.now.election.m c.args.node.now.free c.args.tried c.requires.is_node.free_within c.requires.tried)
 
 pub bounds-dominance-from : goal.bounds-dominance-from
 bounds-dominance-from g c =
-    let aids = rw c.self.view_is at c.self.invariant.1 in
+    let aids = rw c.self.view_is at c.self.invariant in
     omega (arith, c.from-4.ensures, aids.election.most, member-high 1 c.args.self.now.election.m c.args.node.now.free c.args.tried c.requires.is_node.free_within c.requires.tried)
 
 pub class-requires : goal.class-requires
 class-requires g c =
-    let aids = rw c.self.view_is at c.self.invariant.1 in
+    let aids = rw c.self.view_is at c.self.invariant in
     omega (arith, aids.election.most, member-high 1 c.args.self.now.election.m c.args.node.now.free c.args.tried c.requires.is_node.free_within c.requires.tried)
 
 pub returns : goal.returns
@@ -43,7 +43,7 @@ returns g c n is committee whole here out =
     let m = tally.election.m in
     let node = c.args.node.now in
     let tried = c.args.tried in
-    let aids = rw c.self.view_is at c.self.invariant.1 in
+    let aids = rw c.self.view_is at c.self.invariant in
     let dominance : IsDominance tally c.in-Some.dominance = rw c.in-Some.is at aids.dominance in
     let low : 1 ≤ tried = member-low 1 m node.free tried c.requires.is_node.free_within c.requires.tried in
     let high : tried ≤ m = member-high 1 m node.free tried c.requires.is_node.free_within c.requires.tried in

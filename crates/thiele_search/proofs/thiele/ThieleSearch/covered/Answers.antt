@@ -31,7 +31,7 @@ returns g c =
     let node = c.args.node.now in
     let V = tally_value tally in
     let m = tally.election.m in
-    let aids = rw c.self.view_is at c.self.invariant.1 in
+    let aids = rw c.self.view_is at c.self.invariant in
     let rule : tally.rule ≡ Cc = search rules in
     let most : V c.union-set.result ≤ c.match-self.most = elim c.match-self.branch [
       | in-Some w ↦

@@ -13,7 +13,7 @@ with-committee-requires-clause-low g c = (next-among g (goal.at.with-committee-r
 
 pub with-committee-requires-clause-high : goal.with-committee-requires-clause-high
 with-committee-requires-clause-high g c =
-    omega (arith, (next-among g (goal.at.with-committee-requires-clause-high g c).In-Some).1, (rw c.self.view_is at c.self.invariant.1).election.most)
+    omega (arith, (next-among g (goal.at.with-committee-requires-clause-high g c).In-Some).1, (rw c.self.view_is at c.self.invariant).election.most)
 
 pub loop-joined-preserved : goal.loop-joined-preserved
 loop-joined-preserved g c =

@@ -14,7 +14,7 @@ rest-among g c =
     rw c.without-rest.ensures (IsIncreasing-filter (λ x. not (x == c.args.member)) 1 c.args.self.now.election.m c.args.committee c.requires.candidates)
 
 pub of-requires : goal.of-requires
-of-requires g c = omega (arith, (next-among g (goal.at.of-requires g c).In-Some).1, (rw c.self.view_is at c.self.invariant.1).election.most)
+of-requires g c = omega (arith, (next-among g (goal.at.of-requires g c).In-Some).1, (rw c.self.view_is at c.self.invariant).election.most)
 
 pub with-requires-clause-low : goal.with-requires-clause-low
 with-requires-clause-low g c = (next-among g (goal.at.with-requires-clause-low g c).In-Some).0

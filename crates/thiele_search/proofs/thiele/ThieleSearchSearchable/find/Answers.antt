@@ -2,7 +2,7 @@ use Rattle.thiele_search.proofs.thiele.ThieleSearchSearchable.find.Goals as goal
 
 pub find-requires-clause-valued : goal.find-requires-clause-valued
 find-requires-clause-valued g c =
-    let aids = rw c.self.view_is at c.self.invariant.1 in
+    let aids = rw c.self.view_is at c.self.invariant in
     record {
       election = aids.election;
       size = aids.size;

@@ -7,7 +7,7 @@ use Rattle.thiele_search.proofs.AlikeLemmas.{alike}
 use Rattle.thiele_search.proofs.thiele.ThieleSearchWithClones.clones.Goals as goal
 
 pub returns-clause-table : goal.returns-clause-table
-returns-clause-table g c = subst (λ (tally : Thiele). AreClones tally.election.m tally.election.rows c.self.inside.aids.clones) c.self.view_is c.self.invariant.1.clones
+returns-clause-table g c = subst (λ (tally : Thiele). AreClones tally.election.m tally.election.rows c.self.inside.aids.clones) c.self.view_is c.self.invariant.clones
 
 pub returns-clause-rise : goal.returns-clause-rise
 returns-clause-rise g c n low high = clones-rise c.args.self.now.election.m c.args.self.now.election.rows n
@@ -18,4 +18,4 @@ returns-clause-classes g c = clones-classes c.args.self.now.election.m c.args.se
 pub returns-clause-alike : goal.returns-clause-alike
 returns-clause-alike g c =
     subst (λ (tally : Thiele). AreAlike (tally_value tally) tally.election.m (clones_among tally.election.m tally.election.rows)) c.self.view_is
-    (alike c.self.inside.values c.self.invariant.1.election)
+    (alike c.self.inside.values c.self.invariant.election)
