@@ -141,8 +141,8 @@ impl<'a, A: Allocator + Copy + Drop> Listing<'a, A> {
             (ranked_text rule (T.value_of tally.now) self.now.size
             (record { after = self.now.after; limit = self.now.limit }) self.now.names self.now.profile.now) }
     {
-        let winners = Winners::new(tally, self.profile.m(), self.size, self.after);
-        self.write_best(out, rule, winners.best(), winners)
+        let mut winners = Winners::new(tally, self.profile.m(), self.size, self.after);
+        self.write_best(out, rule, winners.best(), &mut winners)
     }
 
     /// Like `write_ranked`, but a search finds the winners.
@@ -157,21 +157,21 @@ impl<'a, A: Allocator + Copy + Drop> Listing<'a, A> {
             (ranked_text rule (S.value_of search) self.now.size
             (record { after = self.now.after; limit = self.now.limit }) self.now.names self.now.profile.now) }
     {
-        let winners = SearchWinners::new(search, self.size, self.after);
-        self.write_best(out, rule, winners.best(), winners)
+        let mut winners = SearchWinners::new(search, self.size, self.after);
+        self.write_best(out, rule, winners.best(), &mut winners)
     }
 
     /// Writes the line of the best value and the lines of the winners, and flushes the writer.
-    fn write_best<W: Sink, B: Answers + Drop>(
+    fn write_best<W: Sink, B: Answers>(
         &self,
         out: &mut W,
         rule: ScoredRule,
         best: u128,
-        winners: B,
+        winners: &mut B,
     ) -> Result<(), WriteFailed>
         ensures { Sends W.contents W.has_failed out.old out.new (is_ok result)
             (line (best_text rule self.now.profile.now.m self.now.size best)
-            ++ answers_text (B.Answer.line_of self.now.names) self.now.limit (B.left winners)) }
+            ++ answers_text (B.Answer.line_of self.now.names) self.now.limit (B.left winners.old)) }
     {
         let mut printer = Printer::new(out);
         self.print_best(&mut printer, rule, best)?;
@@ -182,13 +182,13 @@ impl<'a, A: Allocator + Copy + Drop> Listing<'a, A> {
     pub(crate) fn write_families<W: Sink>(
         &self,
         out: &mut W,
-        winners: FamilyWinners<'_, A>,
+        mut winners: FamilyWinners<'_, A>,
     ) -> Result<(), WriteFailed>
         ensures { Sends W.contents W.has_failed out.old out.new (is_ok result)
             (answers_text (committee_line self.now.names) self.now.limit winners.entry) }
     {
         let mut printer = Printer::new(out);
-        self.page().print(&mut printer, winners)
+        self.page().print(&mut printer, &mut winners)
     }
 
     fn page(&self) -> AnswerPage<'_, A>

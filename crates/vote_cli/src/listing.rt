@@ -129,14 +129,13 @@ impl Answers for Shares {
 }
 
 /// Prints the last line once the limit is reached. It looks for one more answer to decide which line that is.
-fn print_last<W: Sink, A: Answers + Drop>(
+fn print_last<W: Sink, A: Answers>(
     printer: &mut Printer<'_, W>,
-    answers: A,
+    answers: &mut A,
 ) -> Result<(), WriteFailed>
     ensures { Prints W.contents W.has_failed printer.old printer.new (is_ok result)
-        (last_line (has_more (Some 0) (A.left answers))) }
+        (last_line (has_more (Some 0) (A.left answers.old))) }
 {
-    let mut answers = answers;
     match answers.next_answer() {
         Some(_) => printer.print(b"more\n"),
         None => printer.print(b"end\n"),
@@ -171,13 +170,13 @@ impl<N: Allocator + Copy> AnswerPage<'_, N> {
     ///
     /// What was printed before is sent before the first answer is looked for, and the first answer before the second
     /// one is. Later answers may wait for each other (`is_sent_after`).
-    pub(crate) fn print<W: Sink, A: Answers + Drop>(
+    pub(crate) fn print<W: Sink, A: Answers>(
         &self,
         printer: &mut Printer<'_, W>,
-        answers: A,
+        answers: &mut A,
     ) -> Result<(), WriteFailed>
         ensures printed { Prints W.contents W.has_failed printer.old printer.new (is_ok result)
-            (answers_text (A.Answer.line_of self.now.names.now) self.now.limit (A.left answers)) }
+            (answers_text (A.Answer.line_of self.now.names.now) self.now.limit (A.left answers.old)) }
         ensures nothing { is_ok result ≡ true → printer.new.pending.items ≡ [] }
     {
         printer.send()?;
@@ -185,15 +184,14 @@ impl<N: Allocator + Copy> AnswerPage<'_, N> {
         printer.finish()
     }
 
-    fn print_all<W: Sink, A: Answers + Drop>(
+    fn print_all<W: Sink, A: Answers>(
         &self,
         printer: &mut Printer<'_, W>,
-        answers: A,
+        answers: &mut A,
     ) -> Result<(), WriteFailed>
         ensures { Prints W.contents W.has_failed printer.old printer.new (is_ok result)
-            (answers_text (A.Answer.line_of self.now.names.now) self.now.limit (A.left answers)) }
+            (answers_text (A.Answer.line_of self.now.names.now) self.now.limit (A.left answers.old)) }
     {
-        let mut answers = answers;
         let mut room = self.limit;
         let mut number: u64 = 0;
         while has_room(room) {

@@ -32,7 +32,7 @@ fn print_header<W: Sink>(
 /// Writes the method, the seats and these allocations up to the limit, and flushes the writer.
 pub(crate) fn write_shares<W: Sink, N: Allocator + Copy>(
     out: &mut W,
-    shares: Shares,
+    mut shares: Shares,
     sharing: &Sharing,
     names: &Names<'_, N>,
 ) -> Result<(), WriteFailed>
@@ -46,5 +46,5 @@ pub(crate) fn write_shares<W: Sink, N: Allocator + Copy>(
         names,
         limit: sharing.page.limit,
     };
-    page.print(&mut printer, shares)
+    page.print(&mut printer, &mut shares)
 }

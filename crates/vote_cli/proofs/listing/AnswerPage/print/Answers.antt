@@ -5,7 +5,7 @@ use Rattle.vote_cli.proofs.listing.AnswerPage.print.Goals as goal
 
 pub returns-in_err-send-clause-printed : goal.returns-in_err-send-clause-printed
 returns-in_err-send-clause-printed g c =
-    breaks_off (answers_text (g.A.Answer.Answer.line_of c.args.self.now.names.now) c.args.self.now.limit (g.A.Answers.left c.args.answers)) c.send.result _ c.from_residual.result c.in_err-send.was c.from_residual.ensures.0
+    breaks_off (answers_text (g.A.Answer.Answer.line_of c.args.self.now.names.now) c.args.self.now.limit (g.A.Answers.left c.args.answers.now)) c.send.result _ c.from_residual.result c.in_err-send.was c.from_residual.ensures.0
     refl c.send.ensures.printed
 
 pub returns-in_err-print_all-clause-printed : goal.returns-in_err-print_all-clause-printed
