@@ -3,7 +3,7 @@
 use Rattle.std.specs.Borrow.{Bor}
 use Rattle.std.proofs.Common.{sym, ◌≡◌, ℕ, ◌+◌, ◌*◌, List, [], ◌∷◌, true, false, refl, lit≤, lit<, Some, None, sum}
 use Rattle.ballot_base.specs.Lists.{lists_of}
-use Rattle.tie_walk.specs.Steps.Walks.{committees_below, committees_after, committees_from, IsPlace, IsPast, work_left, IsFound, those_reaching, open_below, open_after, open_from, Progress, IsStride, is_alive, waits_at, waits_after, waits_from, IsWait, IsRaised, IsBegun, IsCounted, IsWalk, IsWinning, aim, aim_at, progress}
+use Rattle.tie_walk.specs.Steps.Walks.{committees_below, committees_after, committees_from, IsPlace, IsPast, work_left, those_reaching, open_below, open_after, open_from, Progress, IsStride, is_alive, waits_at, waits_after, waits_from, IsWait, IsRaised, IsBegun, IsCounted, IsWalk, IsWinning, aim, aim_at, progress}
 use Rattle.tie_walk.specs.declared.prefix.Prefix.{Prefix}
 use Rattle.tie_walk.specs.declared.walk.Counts.{Counts}
 use Rattle.tie_walk.specs.declared.walk.Walk.{Walk}
@@ -52,16 +52,6 @@ past_none = refl
 work_of_one : work_left 3 (Some with_one) ≡ 18
 unfolding with_one
 work_of_one = refl
-
--- the first above 3 is 1 and 3, and 2 and 3 is still to come
-found_above_three : IsFound sum 3 2 3 (Some with_one) (1 ∷ 3 ∷ []) (Some without_one)
-unfolding lists_of with_one without_one
-found_above_three = record {
-  next = refl;
-  candidates = (lit≤ tt, lit≤ tt, (lit≤ tt, lit≤ tt, tt));
-  above = lit< tt;
-  place = (lit≤ tt, tt, lit≤ tt);
-}
 
 -- ---- the walk over the winners, where a bound takes 3 for each open seat and the best value is 5
 bound_of_three : ℕ → List ℕ → ℕ → ℕ

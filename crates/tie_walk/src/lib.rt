@@ -7,7 +7,6 @@
 #![tactic(auto)]
 
 mod best;
-mod good;
 pub mod laws;
 pub mod minimax;
 mod prefix;

@@ -67,10 +67,7 @@ impl<'a, T: Tally> Winners<'a, T> {
         ensures left { result.left ≡ later_than after (winners (T.value_of tally.now) m k) }
     {
         let best = greatest_value(tally, k);
-        let walk = match after {
-            Some(set) => Walk::begin_after(tally, k, best, set),
-            None => Walk::begin(tally, k, best),
-        };
+        let walk = Walk::begin(tally, k, best, &after);
         Winners { walk, after }
     }
 

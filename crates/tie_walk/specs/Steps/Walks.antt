@@ -4,7 +4,7 @@ use Rattle.std.specs.List.{list_any}
 use Rattle.ballot_base.specs.Limits.{most_candidates}
 use Rattle.ballot_base.specs.Lists.{IsIncreasing, increasing_lists, later_than}
 use Rattle.ballot_base.specs.CandSet.{with_member}
-use Rattle.tie_walk.specs.Ceilings.{is_open, live_count}
+use Rattle.tie_walk.specs.Ceilings.{IsExactAtBest, is_open, live_count}
 use Rattle.tie_walk.specs.declared.prefix.Prefix.{Prefix}
 use Rattle.tie_walk.specs.declared.walk.Counts.{Counts}
 use Rattle.tie_walk.specs.declared.walk.Walk.{Walk}
@@ -41,15 +41,6 @@ work_left m (Some prefix) = 3 ^ (m - prefix.c) + sum_by (λ n. 3 ^ (m - n)) pref
 -- the committees whose value reaches the best
 abbrev pub those_reaching : (List ℕ → ℕ) → ℕ → List (List ℕ) → List (List ℕ)
 those_reaching value best committees = filter (λ set. nat_le best (value set)) committees
-
--- the next committee with a value above the floor, and where the walk goes on
-pub record IsFound (value : List ℕ → ℕ) (m k floor : ℕ) (from : Option Prefix) (set : List ℕ)
-    (rest : Option Prefix) : Type 0 where
-  pub next : those_reaching value (floor + 1) (committees_from m k from)
-      ≡ set ∷ those_reaching value (floor + 1) (committees_from m k rest)
-  pub candidates : IsIncreasing 1 m set
-  pub above : floor < value set
-  pub place : IsPlace m k rest
 
 module _ (bound : ℕ → List ℕ → ℕ → ℕ) (m k best : ℕ) where
   -- how many prefixes begin with c and the set, if `rest` candidates come after c and each beginning from c on is open
@@ -123,6 +114,28 @@ module _ (value : List ℕ → ℕ) (m k best : ℕ) where
   abbrev pub IsWait : Option Prefix → Counts → Option (List ℕ) → Progress → Type 0
   IsWait from before None rest = rest.counts.ceilings + waits_from rest.place ≤ before.ceilings + waits_from from
   IsWait from before (Some set) rest = rest.counts.ceilings ≤ before.ceilings + waits_from from
+
+-- the same of a walk
+module _ {T : Type 0} (value : T → List ℕ → ℕ) (bound : T → ℕ → List ℕ → ℕ → ℕ) (old : Walk T) where
+  abbrev pub IsExact : Type 0
+  IsExact = IsExactAtBest (value old.tally.now) (bound old.tally.now) old.m old.k old.best
+
+  abbrev pub IsStrideFrom : Option Prefix → Option (List ℕ) → Walk T → Type 0
+  IsStrideFrom from found new = IsStride (value old.tally.now) (bound old.tally.now) old.m old.k old.best from
+      old.counts.entered found (progress new)
+
+  abbrev pub IsWaitFrom : Option Prefix → Option (List ℕ) → Walk T → Type 0
+  IsWaitFrom from found new =
+      IsExact → IsWait (value old.tally.now) old.m old.k old.best from old.counts found (progress new)
+
+-- whether a walk may enter a prefix
+abbrev pub opens : {T : Type 0} → (T → ℕ → List ℕ → ℕ → ℕ) → Walk T → Prefix → Bool
+opens bound walk prefix = is_open (bound walk.tally.now) walk.m walk.k walk.best prefix.c prefix.set
+
+-- no committee below the prefix reaches the walk's best value
+abbrev pub HasNone : {T : Type 0} → (T → List ℕ → ℕ) → Walk T → Prefix → Type 0
+HasNone value walk prefix =
+    those_reaching (value walk.tally.now) walk.best (committees_below walk.m walk.k prefix.c prefix.set) ≡ []
 
 -- what that part adds to the counts: each prefix has a bound, and there are at most as many bounds as passed prefixes
 pub record IsRaised (m : ℕ) (from : Option Prefix) (before : Counts) (rest : Progress) : Type 0 where

@@ -10,4 +10,4 @@ pub loop-c-preserved : goal.loop-c-preserved
 loop-c-preserved c = grind (arith, common_steps, not-last)
 
 pub returns : goal.returns
-returns c = none_below c.loop-c.c c.args.self.set (omega (arith, c.loop-c-test.false)) c.loop-c.invariant.members
+returns c = none_below c.loop-c.c c.args.self.now.set (omega (arith, c.loop-c-test.false)) c.loop-c.invariant.members

@@ -2,7 +2,7 @@ use Rattle.std.proofs.Common.{◌≡◌, ◌+◌, ◌-◌, ◌≤◌, [], Some}
 use Rattle.ballot_base.specs.CandSet.{members_upto}
 use Rattle.tie_walk.specs.Ceilings.{live_below, live_count}
 use Rattle.tie_walk.specs.Steps.Walks.{open_after, IsWalk, aim, aim_at}
-use Rattle.tie_walk.proofs.walk.Walk.begin_after.Given as goal
+use Rattle.tie_walk.proofs.walk.Walk.begin.Given as goal
 
 -- what is live below the beginning of the start, and what is still to be entered after it, is all live, and with what
 -- was entered it is all that is
