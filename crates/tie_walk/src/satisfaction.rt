@@ -38,10 +38,13 @@ impl<'a, A: Allocator + Copy> SavTally<'a, A> {
         ensures tight { let tallies = ⟦<SavTally<'a, A> as Tally>⟧ in (k : ℕ)
             → IsTight (tallies.value_of result) (tallies.bound_of result) (tallies.candidates result) k }
     {
-        SavTally {
-            profile,
-            scores: scores(profile, &parts(common_multiple(profile.m()))),
+        let shares = parts(common_multiple(profile.m()));
+        let mut scores = Worths::none();
+        for (ballot, voters) in profile.ballots() {
+            let share = shares[usize::from(ballot.len())];
+            scores.add(ballot, u128::from(voters) * share);
         }
+        SavTally { profile, scores }
     }
 }
 
@@ -74,17 +77,4 @@ fn parts(whole: u128) -> [u128; PLACES]
         parts[n] = whole / n as u128;
     }
     parts
-}
-
-/// What each candidate adds to a committee: the shares of the voters who approve the candidate.
-fn scores<A: Allocator + Copy>(profile: &Profile<A>, shares: &[u128; PLACES]) -> Worths
-    requires { (n : ℕ) → slice_index shares.now n < 2 ^ 90 }
-    ensures { (c : ℕ) → slice_index result c ≡ score shares.now profile.now.rows c }
-{
-    let mut totals = Worths::none();
-    for (ballot, voters) in profile.ballots() {
-        let share = shares[usize::from(ballot.len())];
-        totals.add(ballot, u128::from(voters) * share);
-    }
-    totals
 }

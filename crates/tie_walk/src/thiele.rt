@@ -53,7 +53,11 @@ impl<'a, A: Allocator + Copy> ThieleTally<'a, A> {
             → IsTight (tallies.value_of result) (tallies.bound_of result) (tallies.candidates result) result.k }
     {
         let weights = Increments::of(rule, k).w;
-        let sums = prefix_sums(weights);
+        let mut sums = [0; PLACES];
+        for x in 0..usize::from(MOST_CANDIDATES) {
+            let more = if x < weights.len() { weights[x] } else { 0 };
+            sums[x + 1] = sums[x] + more;
+        }
         ThieleTally {
             profile,
             m: profile.m(),
@@ -62,6 +66,13 @@ impl<'a, A: Allocator + Copy> ThieleTally<'a, A> {
             weights,
             sums,
         }
+    }
+
+    /// The profile of this tally.
+    pub fn profile(&self) -> &'a Profile<A>
+        ensures { result.now ≡ self.now.election }
+    {
+        self.profile
     }
 
     /// The rule of this tally.
@@ -116,17 +127,4 @@ impl<'a, A: Allocator + Copy> Tally for ThieleTally<'a, A> {
         let gains = self.gains(set, CandSet::after(c, self.m));
         self.value(set) + greatest_sum(&gains, c, self.m, left)
     }
-}
-
-/// The sum of the first x of these numbers, at x.
-fn prefix_sums(w: [u128; MOST_MEMBERS as usize]) -> [u128; PLACES]
-    requires { sum w < 2 ^ 128 }
-    ensures { result ≡ prefix_sums w }
-{
-    let mut sums = [0; PLACES];
-    for x in 0..usize::from(MOST_CANDIDATES) {
-        let more = if x < w.len() { w[x] } else { 0 };
-        sums[x + 1] = sums[x] + more;
-    }
-    sums
 }

@@ -1,9 +1,9 @@
 use Rattle.std.proofs.lemmas.Grind.{common_steps}
-use Rattle.std.proofs.Common.{◌≡◌, ◌+◌, ◌-◌, ◌^◌, ◌<◌, ◌≤◌, ◌∙◌, cond, ℕ, [], Option, Some, List, sym, ap, subst, arith}
+use Rattle.std.proofs.Common.{◌≡◌, ◌-◌, ◌≤◌, ◌∙◌, cond, ℕ, [], Option, Some, List, sym, ap, subst, arith}
 use Rattle.ballot_base.specs.CandSet.{members_upto}
 use Rattle.tie_walk.specs.Ceilings.{is_open}
 use Rattle.tie_walk.specs.Winners.{IsStart}
-use Rattle.tie_walk.specs.Steps.Walks.{committees_below, IsBegun, IsPlace, Aim, progress, those_reaching, work_left}
+use Rattle.tie_walk.specs.Steps.Walks.{committees_below, IsBegun, IsPlace, Aim, progress, those_reaching}
 use Rattle.tie_walk.proofs.WaitLemmas.{work-most}
 use Rattle.tie_walk.proofs.WalkLemmas.{at_root, prefix_at, place-past, after-start}
 use Rattle.tie_walk.proofs.CountLemmas.{ahead-whole, begun, down-all}
