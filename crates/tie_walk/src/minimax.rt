@@ -2,6 +2,7 @@
 //!
 //! The bound of a prefix comes from the distances on the candidates decided so far, which only grow.
 ghost use Rattle.std.specs.Prelude.{◌≡◌};
+ghost use Rattle.ballot_base.specs.Ballots.{Election};
 ghost use Rattle.tie_walk.specs.Ceilings.{closeness_upto};
 ghost use Rattle.tie_walk.specs.Values.{closeness};
 
@@ -18,8 +19,6 @@ pub struct MinimaxTally<'a, A: Allocator + Copy = Global> {
 }
 
 impl<'a, A: Allocator + Copy> Model for MinimaxTally<'a, A> {
-    ghost use Rattle.ballot_base.specs.Ballots.{Election};
-
     ghost Value = { Election };
 
     ghost view = { λ t. t.profile.now };

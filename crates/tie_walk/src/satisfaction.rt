@@ -1,9 +1,10 @@
 //! The values of satisfaction approval voting. The bound of a prefix is the value of some committee below it, as under
 //! approval voting (`laws::tight_bounds`).
-ghost use Rattle.std.specs.Prelude.{◌≡◌, ℕ, ◌^◌, ◌<◌, slice_index};
+ghost use Rattle.std.specs.Prelude.{◌≡◌, ℕ};
+ghost use Rattle.ballot_base.specs.Ballots.{Election};
 ghost use Rattle.tie_walk.specs.Ceilings.{IsTight, ceiling};
 ghost use Rattle.tie_walk.specs.Values.{satisfaction_value};
-ghost use Rattle.tie_walk.specs.Steps.Tables.{parts, score};
+ghost use Rattle.tie_walk.specs.Steps.Tables.{parts, IsSatisfaction};
 
 use crate::tally::{Tally, greatest_sum};
 use ballot_base::{CandSet, PLACES, Profile, Worths, common_multiple};
@@ -20,9 +21,6 @@ pub struct SavTally<'a, A: Allocator + Copy = Global> {
 }
 
 impl<'a, A: Allocator + Copy> Model for SavTally<'a, A> {
-    ghost use Rattle.ballot_base.specs.Ballots.{Election};
-    ghost use Rattle.tie_walk.specs.Steps.Tables.{IsSatisfaction};
-
     ghost Value = { Election };
 
     ghost view = { λ t. t.profile.now };

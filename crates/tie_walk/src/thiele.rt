@@ -1,13 +1,13 @@
 //! The values of Thiele's rules: one pass over the rows, with a table that is made once. The bound of a prefix is the
 //! value of its set plus the highest gains at it, since gains only fall as a committee grows.
-ghost use Rattle.std.specs.Prelude.{◌≡◌, ℕ, ◌^◌, ◌<◌, ◌≤◌, true, sum, slice_index};
+ghost use Rattle.std.specs.Prelude.{◌≡◌, ℕ, ◌^◌, ◌≤◌, true, slice_index};
 ghost use Rattle.ballot_base.specs.Limits.{most_members};
 ghost use Rattle.ballot_base.specs.CandSet.{has_member};
 ghost use Rattle.ballot_base.specs.Increments.{increments};
 ghost use Rattle.tie_walk.specs.Ceilings.{IsTight, ceiling};
 ghost use Rattle.tie_walk.specs.Sequences.{gain};
-ghost use Rattle.tie_walk.specs.Values.{tally_value, thiele_of};
-ghost use Rattle.tie_walk.specs.Steps.Tables.{prefix_sums};
+ghost use Rattle.tie_walk.specs.Values.{Thiele, tally_value, thiele_of};
+ghost use Rattle.tie_walk.specs.Steps.Tables.{IsThiele};
 
 use crate::sequential::Step;
 use crate::tally::{Tally, greatest_sum};
@@ -32,9 +32,6 @@ pub struct ThieleTally<'a, A: Allocator + Copy = Global> {
 }
 
 impl<'a, A: Allocator + Copy> Model for ThieleTally<'a, A> {
-    ghost use Rattle.tie_walk.specs.Values.{Thiele, thiele_of};
-    ghost use Rattle.tie_walk.specs.Steps.Tables.{IsThiele};
-
     ghost Value = { Thiele };
 
     ghost view = { λ t. thiele_of t.profile.now t.rule t.k };

@@ -10,9 +10,10 @@
 //! tally whose bounds are each the value of some committee (`IsTight`) is exact, whatever is best
 //! (`laws::tight_bounds`).
 ghost use Rattle.std.specs.Prelude.{◌≡◌, ◌+◌, ◌≤◌};
+ghost use Rattle.std.specs.Iterator.{item_count};
 ghost use Rattle.ballot_base.specs.Lists.{later_than};
 ghost use Rattle.tie_walk.specs.Ceilings.{live_count};
-ghost use Rattle.std.specs.Iterator.{item_count};
+ghost use Rattle.tie_walk.specs.Steps.Walks.{IsWinning, committees_from, those_reaching};
 ghost use Rattle.tie_walk.specs.Winners.{Winning, IsStart, IsNextWinner, best_value, winners};
 
 use crate::best::greatest_value;
@@ -31,9 +32,6 @@ pub struct Winners<'a, T: Tally> {
 }
 
 impl<'a, T: Tally> Model for Winners<'a, T> {
-    ghost use Rattle.tie_walk.specs.Steps.Walks.{IsWinning, committees_from, those_reaching};
-    ghost use Rattle.tie_walk.specs.Winners.{Winning};
-
     ghost Value = { Winning T };
 
     ghost view = { λ w. record {
