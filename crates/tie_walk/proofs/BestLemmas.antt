@@ -11,7 +11,7 @@ use Rattle.ballot_base.proofs.Increasing.{IsIncreasing-higher, IsIncreasing-lowe
 use Rattle.ballot_base.proofs.ListLemmas.{AllByRecursion-append}
 use Rattle.tie_walk.specs.Ceilings.{IsBound}
 use Rattle.tie_walk.specs.Steps.Walks.{committees_below, committees_after, committees_from, IsPlace, those_reaching}
-use Rattle.tie_walk.specs.declared.prefix.Prefix.{Prefix}
+use Rattle.tie_walk.specs.declared.walk.Prefix.{Prefix}
 use Rattle.tie_walk.specs.Winners.{best_value}
 use Rattle.tie_walk.proofs.WalkLemmas.{below-bounded, from-root}
 use Rattle.tie_walk.proofs.WinnersLemmas.{greatest, greatest-low, greatest-most, greatest-next, greatest-first}

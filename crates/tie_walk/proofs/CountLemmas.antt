@@ -16,7 +16,7 @@ use Rattle.ballot_base.proofs.Later.{is_later-self}
 use Rattle.ballot_base.proofs.ListLemmas.{AllByRecursion-weaker}
 use Rattle.tie_walk.specs.Ceilings.{is_open, is_ahead, live_below, live_count}
 use Rattle.tie_walk.specs.Steps.Walks.{committees_after, those_reaching, open_after, IsPast, IsBegun}
-use Rattle.tie_walk.specs.declared.prefix.Prefix.{Prefix}
+use Rattle.tie_walk.specs.declared.walk.Prefix.{Prefix}
 use Rattle.tie_walk.specs.declared.walk.Counts.{Counts}
 use Rattle.tie_walk.proofs.LiveLemmas.{upto-all, upto-increasing, upto-next, upto-rest, ahead-start, live-open, live-parts, live-past, live-shut, place-upto}
 use Rattle.tie_walk.proofs.OpenLemmas.{open_after-push, open-past, shut-large}

@@ -10,7 +10,7 @@ use Rattle.ballot_base.specs.Lists.{IsIncreasing}
 use Rattle.ballot_base.proofs.Increasing.{IsIncreasing-push, IsIncreasing-higher, with_member-above}
 use Rattle.tie_walk.specs.Ceilings.{IsBound, is_open}
 use Rattle.tie_walk.specs.Steps.Walks.{committees_below, committees_from, IsPlace, IsPast, work_left, those_reaching, open_below, open_after, open_from}
-use Rattle.tie_walk.specs.declared.prefix.Prefix.{Prefix}
+use Rattle.tie_walk.specs.declared.walk.Prefix.{Prefix}
 use Rattle.tie_walk.proofs.WalkLemmas.{below-full, below-short, below-bounded, from-grown, from-past, work-grown}
 
 -- ---- committees that reach the best value

@@ -4,7 +4,7 @@ use Rattle.std.specs.Borrow.{Bor}
 use Rattle.std.proofs.Common.{sym, ◌≡◌, ℕ, ◌+◌, ◌*◌, List, [], ◌∷◌, true, false, refl, lit≤, lit<, Some, None, sum}
 use Rattle.ballot_base.specs.Lists.{lists_of}
 use Rattle.tie_walk.specs.Steps.Walks.{committees_below, committees_after, committees_from, IsPlace, IsPast, work_left, those_reaching, open_below, open_after, open_from, Progress, IsStride, is_alive, waits_at, waits_after, waits_from, IsWait, IsRaised, IsBegun, IsCounted, IsWalk, IsWinning, aim, aim_at, progress}
-use Rattle.tie_walk.specs.declared.prefix.Prefix.{Prefix}
+use Rattle.tie_walk.specs.declared.walk.Prefix.{Prefix}
 use Rattle.tie_walk.specs.declared.walk.Counts.{Counts}
 use Rattle.tie_walk.specs.declared.walk.Walk.{Walk}
 

@@ -9,7 +9,6 @@
 mod best;
 pub mod laws;
 pub mod minimax;
-mod prefix;
 pub mod satisfaction;
 pub mod sequential;
 pub mod tally;

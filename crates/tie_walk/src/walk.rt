@@ -4,13 +4,41 @@
 //! `proofs/WalkLemmas.antt` shows that what the walk leaves out has no winner. `LiveLemmas.antt` and `OpenLemmas.antt`
 //! show that each prefix it enters is live.
 ghost use Rattle.std.specs.Prelude.{◌≡◌, ◌+◌, ◌*◌, ◌^◌, ◌<◌, ◌≤◌, false, None, Some, if◌then◌else◌};
-ghost use Rattle.tie_walk.specs.Steps.Walks.{opens, HasNone, IsBegun, IsExact, IsPlace, IsRaised};
+ghost use Rattle.ballot_base.specs.Limits.{most_candidates};
+ghost use Rattle.ballot_base.specs.Lists.{IsIncreasing};
+ghost use Rattle.tie_walk.specs.Steps.Walks.{opens, HasNone, IsBegun, IsExact, IsPast, IsPlace, IsRaised};
 ghost use Rattle.tie_walk.specs.Steps.Walks.{IsStrideFrom, IsWaitFrom, IsWalk, aim, aim_at, progress, work_left};
 ghost use Rattle.tie_walk.specs.Winners.{IsStart};
 
-use crate::prefix::Prefix;
 use crate::tally::Tally;
 use ballot_base::CandSet;
+
+/// The decision on each of the candidates 1 to c: those of the set are members, the others are not.
+#[derive(Clone, Copy)]
+pub(crate) struct Prefix {
+    c: u8,
+    set: CandSet,
+}
+
+impl Prefix {
+    /// What comes after all committees below this prefix: the last member becomes a non-member. Returns `None` if there
+    /// is no member.
+    fn past(&self) -> Option<Prefix>
+        requires high { self.now.c ≤ most_candidates }
+        requires candidates { IsIncreasing 1 self.now.c self.now.set }
+        ensures { IsPast self.now result }
+    {
+        let mut c = self.c;
+        while c > 0 {
+            if self.set.has(c) {
+                let set = self.set.without(c);
+                return Some(Prefix { c, set });
+            }
+            c -= 1;
+        }
+        None
+    }
+}
 
 /// How many prefixes a walk has entered, and how many bounds it has asked for.
 #[derive(Clone, Copy, Default)]

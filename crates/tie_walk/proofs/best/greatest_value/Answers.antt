@@ -3,7 +3,7 @@ use Rattle.std.proofs.Common.{◌≡◌, ℕ, ◌+◌, ◌<◌, ◌++◌, List, 
 use Rattle.std.specs.Prelude.{option_to_list}
 use Rattle.ballot_base.specs.Lists.{IsIncreasing, increasing_lists}
 use Rattle.tie_walk.specs.Steps.Walks.{committees_from, those_reaching, IsPlace, Aim}
-use Rattle.tie_walk.specs.declared.prefix.Prefix.{Prefix}
+use Rattle.tie_walk.specs.declared.walk.Prefix.{Prefix}
 use Rattle.tie_walk.specs.Winners.{best_value}
 use Rattle.tie_walk.proofs.BestLemmas.{greatest-good, greatest-found, best-reached}
 use Rattle.tie_walk.proofs.WinnersLemmas.{greatest, greatest-begun, greatest-done}

@@ -4,7 +4,7 @@ use Rattle.std.specs.Bool.{then_some}
 use Rattle.std.specs.Prelude.{option_to_list}
 use Rattle.std.proofs.lemmas.Bool.{leb-false}
 use Rattle.ballot_base.proofs.Increasing.{with_member-above}
-use Rattle.tie_walk.specs.declared.prefix.Prefix.{Prefix}
+use Rattle.tie_walk.specs.declared.walk.Prefix.{Prefix}
 use Rattle.tie_walk.specs.declared.walk.Counts.{Counts}
 use Rattle.tie_walk.specs.Steps.Walks.{Progress, IsWait, those_reaching, waits_from}
 use Rattle.tie_walk.proofs.WalkLemmas.{place-past, work-past}

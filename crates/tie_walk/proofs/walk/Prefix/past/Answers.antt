@@ -1,7 +1,7 @@
 use Rattle.std.proofs.lemmas.Grind.{common_steps}
 use Rattle.std.proofs.Common.{arith}
 use Rattle.tie_walk.proofs.WalkLemmas.{without-last, not-last, without-increasing, none_below}
-use Rattle.tie_walk.proofs.prefix.Prefix.past.Goals as goal
+use Rattle.tie_walk.proofs.walk.Prefix.past.Goals as goal
 
 pub returns-then-has : goal.returns-then-has
 returns-then-has c = grind (arith, common_steps, without-last, without-increasing)
