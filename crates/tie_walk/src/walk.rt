@@ -40,13 +40,6 @@ impl Prefix {
     }
 }
 
-/// How many prefixes a walk has entered, and how many bounds it has asked for.
-#[derive(Clone, Copy, Default)]
-pub(crate) struct Counts {
-    pub(crate) entered: u128,
-    pub(crate) ceilings: u128,
-}
-
 /// A walk over the committees of size k of the tally's m candidates whose value reaches the best: its place and its
 /// counts.
 #[derive(Drop)]
@@ -56,7 +49,9 @@ pub(crate) struct Walk<'a, T: Tally> {
     k: u8,
     pub(crate) best: u128,
     pub(crate) place: Option<Prefix>,
-    pub(crate) counts: Counts,
+    // How many prefixes the walk has entered, and how many bounds it has asked for.
+    pub(crate) entered: u128,
+    pub(crate) ceilings: u128,
 }
 
 impl<'a, T: Tally> Walk<'a, T> {
@@ -78,7 +73,8 @@ impl<'a, T: Tally> Walk<'a, T> {
             k,
             best,
             place: None,
-            counts: Counts::default(),
+            entered: 0,
+            ceilings: 0,
         };
         let Some(start) = *after else {
             let set = CandSet::empty();
@@ -102,25 +98,24 @@ impl<'a, T: Tally> Walk<'a, T> {
     fn enter(&mut self, prefix: &Prefix) -> bool
         requires walk { IsWalk T.candidates self.old }
         requires place { IsPlace self.old.m self.old.k (Some prefix.now) }
-        requires fits { self.old.counts.entered < 2 ^ 127 }
-        requires asks { self.old.counts.ceilings < 2 ^ 127 }
+        requires asks { self.old.ceilings < 2 ^ 127 }
         ensures walk { IsWalk T.candidates self.new }
         ensures aim { aim self.new ≡ aim self.old }
         ensures open { result ≡ opens T.bound_of self.old prefix.now }
-        ensures entered { self.new.counts.entered ≡ self.old.counts.entered + (if result then 1 else 0) }
-        ensures asked { self.old.counts.ceilings + (if result then 1 else 0) ≤ self.new.counts.ceilings }
-        ensures once { self.new.counts.ceilings ≤ self.old.counts.ceilings + 1 }
+        ensures entered { self.new.entered ≡ self.old.entered + (if result then 1 else 0) }
+        ensures asked { self.old.ceilings ≤ self.new.ceilings }
+        ensures once { self.new.ceilings ≤ self.old.ceilings + 1 }
         ensures none { result ≡ false → HasNone T.value_of self.old prefix.now }
     {
         let left = self.k - prefix.set.len();
         if left > self.m - prefix.c {
             return false;
         }
-        self.counts.ceilings += 1;
+        self.ceilings += 1;
         if self.tally.bound(prefix.c, prefix.set, left) < self.best {
             return false;
         }
-        self.counts.entered += 1;
+        self.entered += 1;
         true
     }
 
@@ -129,12 +124,11 @@ impl<'a, T: Tally> Walk<'a, T> {
     fn visit(&mut self, prefix: &Prefix) -> Option<CandSet>
         requires walk { IsWalk T.candidates self.old }
         requires place { IsPlace self.old.m self.old.k (Some prefix.now) }
-        requires fits { self.old.counts.entered < 2 ^ 127 }
-        requires asks { self.old.counts.ceilings + work_left self.old.m (Some prefix.now) < 2 ^ 127 }
+        requires asks { self.old.ceilings + work_left self.old.m (Some prefix.now) < 2 ^ 127 }
         ensures walk { IsWalk T.candidates self.new }
         ensures aim { aim self.new ≡ aim self.old }
         ensures stride { IsStrideFrom T.value_of T.bound_of self.old (Some prefix.now) result self.new }
-        ensures raised { IsRaised self.old.m (Some prefix.now) self.old.counts (progress self.new) }
+        ensures raised { IsRaised self.old.m (Some prefix.now) (progress self.old) (progress self.new) }
         ensures wait { IsWaitFrom T.value_of T.bound_of self.old (Some prefix.now) result self.new }
         ensures work { work_left self.old.m self.new.place < work_left self.old.m (Some prefix.now) }
         ensures early { prefix.now.c < self.old.m → result ≡ None }
@@ -158,14 +152,13 @@ impl<'a, T: Tally> Walk<'a, T> {
     /// The next winner from the walk's place on.
     pub(crate) fn next(&mut self) -> Option<CandSet>
         requires walk { IsWalk T.candidates self.old }
-        requires asked { self.old.counts.entered ≤ self.old.counts.ceilings }
-        requires fits { self.old.counts.ceilings + work_left self.old.m self.old.place < 2 ^ 127 }
+        requires fits { self.old.ceilings + work_left self.old.m self.old.place < 2 ^ 127 }
         ensures walk { IsWalk T.candidates self.new }
         ensures aim { aim self.new ≡ aim self.old }
         ensures stride { IsStrideFrom T.value_of T.bound_of self.old self.old.place result self.new }
-        ensures raised { IsRaised self.old.m self.old.place self.old.counts (progress self.new) }
+        ensures raised { IsRaised self.old.m self.old.place (progress self.old) (progress self.new) }
         ensures wait { IsExact T.value_of T.bound_of self.old
-            → self.new.counts.ceilings ≤ self.old.counts.ceilings + 4 * self.old.m }
+            → self.new.ceilings ≤ self.old.ceilings + 4 * self.old.m }
         ensures end { result ≡ None → self.new.place ≡ None }
     {
         while let Some(prefix) = self.place {

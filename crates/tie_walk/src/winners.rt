@@ -41,8 +41,8 @@ impl<'a, T: Tally> Model for Winners<'a, T> {
       after = w.after;
       best = w.walk.best;
       left = those_reaching (T.value_of w.walk.tally.now) w.walk.best (committees_from w.walk.m w.walk.k w.walk.place);
-      entered = w.walk.counts.entered;
-      ceilings = w.walk.counts.ceilings;
+      entered = w.walk.entered;
+      ceilings = w.walk.ceilings;
     } };
 
     ghost invariant = { λ w. IsWinning T.candidates T.bound_of w.after w.walk };
@@ -85,7 +85,7 @@ impl<'a, T: Tally> Winners<'a, T> {
         ensures most { result ≤ live_count (T.bound_of self.now.tally) self.now.m self.now.k self.now.best
             self.now.after + self.now.m }
     {
-        self.walk.counts.entered
+        self.walk.entered
     }
 
     /// The number of bounds that the walk to the winners has asked for so far. It asks for one at each prefix at which
@@ -95,7 +95,7 @@ impl<'a, T: Tally> Winners<'a, T> {
         ensures count { result ≡ self.now.ceilings }
         ensures entered { self.now.entered ≤ result }
     {
-        self.walk.counts.ceilings
+        self.walk.ceilings
     }
 }
 

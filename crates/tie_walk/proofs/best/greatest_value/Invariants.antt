@@ -12,8 +12,7 @@ invariant-loop-best g l =
     record {
       walk : IsWalk g.T.Tally.candidates l.walk;
       same : aim l.walk ≡ aim_at l.tally m l.k l.walk.best;
-      asked : l.walk.counts.entered ≤ l.walk.counts.ceilings;
-      fits : l.walk.counts.ceilings + work_left m l.walk.place < 2 ^ 127;
+      fits : l.walk.ceilings + work_left m l.walk.place < 2 ^ 127;
       best : greatest value l.best (committees_from m l.k l.walk.place) ≡ best_value value m l.k;
     }
 

@@ -31,7 +31,6 @@ returns-in_default-clause-begun g c =
         all = grind (arith, common_steps, all-live);
         few = grind (arith, common_steps, all-live);
         exact = λ e. grind (arith, common_steps, all-live);
-        asked = grind (arith, common_steps);
         fits = grind (arith, common_steps, work-most m c.args.k (Some (prefix_at 0 c.empty-set.result)) (omega (arith, c.m-m.ensures.value, c.m-m.ensures.most)) root.1);
       };
     })
@@ -84,13 +83,13 @@ returns-then-not-enter-clause-begun g c =
     subst (λ s. those_reaching value c.args.best (committees_below m k n s) ≡ []) c.upto-set.ensures
     (subst (λ (x : Aim g.row.T.Denot). those_reaching (g.T.Tally.value_of x.tally) x.best (committees_below x.m x.k n c.upto-set.result) ≡ []) c.loop-c.invariant.same (c.enter.ensures.none c.if-not-enter.true)) in
     let entered = ap {B = ℕ} (λ b. cond b 1 0) c.if-not-enter.true in
-    subst (λ (o : Option (List ℕ)). IsBegun value bound m k c.args.best o (record { place = c.past-walk.result; counts = c.enter.new.self.counts })) (sym c.in-Some.is)
-    (begun m k start chosen.0 chosen.1 value bound c.args.best n c.past-walk.result c.enter.new.self.counts
+    subst (λ (o : Option (List ℕ)). IsBegun value bound m k c.args.best o (record { place = c.past-walk.result; entered = c.enter.new.self.entered; ceilings = c.enter.new.self.ceilings })) (sym c.in-Some.is)
+    (begun m k start chosen.0 chosen.1 value bound c.args.best n c.past-walk.result c.enter.new.self.entered c.enter.new.self.ceilings
     (omega (arith, c.m-m.ensures.value, c.m-m.ensures.most)) low (rw c.upto-set.ensures at c.past-walk.ensures)
     (left-early m k value c.args.best n start low chosen.0 chosen.1 none)
     (live-shut m k (Some start) bound c.args.best (m - n) n (members_upto start n) (sym (opened g at.After-enter) ∙ c.if-not-enter.true))
     c.loop-c.invariant.all c.loop-c.invariant.few (omega (arith, c.enter.ensures.entered, entered, c.loop-c.invariant.entered))
-    (omega (arith, c.enter.ensures.asked, entered, c.loop-c.invariant.ceilings)) (omega (arith, c.enter.ensures.once, c.loop-c.invariant.ceilings)))
+    (omega (arith, c.enter.ensures.once, c.loop-c.invariant.ceilings)))
 
 pub loop-c-preserved : goal.loop-c-preserved
 loop-c-preserved g c =
@@ -108,9 +107,9 @@ returns-clause-begun g c =
     let n = c.loop-c.c in
     let last : n ≡ m = omega (arith, c.loop-c-test.false, c.loop-c.auto.c-end, c.m-m.ensures.value) in
     let whole : members_upto start n ≡ start = ap (members_upto start) last ∙ upto-all 1 m start chosen.0 in
-    subst (λ (o : Option (List ℕ)). IsBegun value bound m k c.args.best o (record { place = c.past-walk-2.result; counts = c.loop-c.walk.counts })) (sym c.in-Some.is)
-    (begun m k start chosen.0 chosen.1 value bound c.args.best n c.past-walk-2.result c.loop-c.walk.counts
+    subst (λ (o : Option (List ℕ)). IsBegun value bound m k c.args.best o (record { place = c.past-walk-2.result; entered = c.loop-c.walk.entered; ceilings = c.loop-c.walk.ceilings })) (sym c.in-Some.is)
+    (begun m k start chosen.0 chosen.1 value bound c.args.best n c.past-walk-2.result c.loop-c.walk.entered c.loop-c.walk.ceilings
     (omega (arith, c.m-m.ensures.value, c.m-m.ensures.most)) (omega (arith, last)) (rw (whole, last, ← c.m-m.ensures.value) c.past-walk-2.ensures)
     (rw whole (ap (those_reaching value c.args.best) (after-start m k start chosen.0 chosen.1)))
     (live-past m k (Some start) bound c.args.best (m - n) n (members_upto start n) (rw (whole, last) (ahead-whole m k start chosen.0 chosen.1)))
-    c.loop-c.invariant.all c.loop-c.invariant.few c.loop-c.invariant.entered (omega (arith, c.loop-c.invariant.ceilings)) (omega (arith, c.loop-c.invariant.ceilings)))
+    c.loop-c.invariant.all c.loop-c.invariant.few c.loop-c.invariant.entered (omega (arith, c.loop-c.invariant.ceilings)))

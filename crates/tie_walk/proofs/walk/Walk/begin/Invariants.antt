@@ -13,8 +13,8 @@ invariant-loop-c g l =
     record {
       walk : IsWalk g.T.Tally.candidates l.walk;
       same : aim l.walk ≡ a;
-      entered : l.walk.counts.entered ≡ l.c;
-      ceilings : l.walk.counts.ceilings ≡ l.c;
+      entered : l.walk.entered ≡ l.c;
+      ceilings : l.walk.ceilings ≡ l.c;
       all : live_count bound a.m a.k a.best (Some l.start)
           ≤ l.c + live_below bound a.m a.k a.best (Some l.start) (a.m - l.c) l.c (members_upto l.start l.c) + open_after bound a.m a.k a.best [] (members_upto l.start l.c);
       few : live_below bound a.m a.k a.best (Some l.start) (a.m - l.c) l.c (members_upto l.start l.c) + open_after bound a.m a.k a.best [] (members_upto l.start l.c)

@@ -5,7 +5,6 @@ use Rattle.std.specs.Prelude.{option_to_list}
 use Rattle.std.proofs.lemmas.Bool.{leb-false}
 use Rattle.ballot_base.proofs.Increasing.{with_member-above}
 use Rattle.tie_walk.specs.declared.walk.Prefix.{Prefix}
-use Rattle.tie_walk.specs.declared.walk.Counts.{Counts}
 use Rattle.tie_walk.specs.Steps.Walks.{Progress, IsWait, those_reaching, waits_from}
 use Rattle.tie_walk.proofs.WalkLemmas.{place-past, work-past}
 use Rattle.tie_walk.proofs.OpenLemmas.{place-first, reaching-past, reaching-whole, from-first, open-sizes, passed, entered-first, entered-last}
@@ -17,8 +16,8 @@ found_by : (b : Bool) (set : List ℕ) → option_to_list (then_some b set) ≡ 
 found_by true set = refl
 found_by false set = refl
 
-wait_by : (value : List ℕ → ℕ) (m k best : ℕ) (from : Option Prefix) (before : Counts) (rest : Progress) (set : List ℕ) (b : Bool)
-    → (b ≡ true → rest.counts.ceilings ≤ before.ceilings + waits_from value m k best from) → (b ≡ false → ⊥) → IsWait value m k best from before (then_some b set) rest
+wait_by : (value : List ℕ → ℕ) (m k best : ℕ) (from : Option Prefix) (before : Progress) (rest : Progress) (set : List ℕ) (b : Bool)
+    → (b ≡ true → rest.ceilings ≤ before.ceilings + waits_from value m k best from) → (b ≡ false → ⊥) → IsWait value m k best from before (then_some b set) rest
 wait_by value m k best from before rest set true some none = some refl
 wait_by value m k best from before rest set false some none = absurd (none refl)
 
@@ -63,7 +62,7 @@ returns-then-c-m g c =
       };
       raised = record {
         entered = omega (arith, asked.entered);
-        asked = omega (arith, asked.entered, asked.asked);
+        asked = asked.asked;
         work = omega (arith, asked.once, first.1);
       };
       wait = λ exact. omega (
