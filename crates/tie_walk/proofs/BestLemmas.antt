@@ -1,6 +1,6 @@
 -- From a good committee on to the greatest value.
 use Rattle.std.proofs.lemmas.Grind.{common_steps}
-use Rattle.std.proofs.Common.{◌≡◌, ℕ, ◌+◌, ◌-◌, ◌<◌, ◌≤◌, ◌∙◌, true, false, List, [], ◌∷◌, ◌++◌, Option, None, Some, sym, ap, subst, arith, inl, inr, length, map, unwrap_or}
+use Rattle.std.proofs.Common.{◌≡◌, ℕ, ◌+◌, ◌-◌, ◌<◌, ◌≤◌, ◌∙◌, true, false, List, [], ◌∷◌, ◌++◌, Option, None, Some, sym, subst, arith, inl, inr, length, map, unwrap_or}
 use Rattle.std.specs.Prelude.{nat_le}
 use Rattle.std.specs.List.{AllByRecursion}
 use Rattle.std.proofs.lemmas.Bool.{cases_Bool, cases_eq, cases_lt, false≢true, leb-true}
@@ -10,8 +10,8 @@ use Rattle.ballot_base.proofs.Committees.{IsChosen, increasing_lists-chosen, inc
 use Rattle.ballot_base.proofs.Increasing.{IsIncreasing-higher, IsIncreasing-lower, IsIncreasing-push, IsIncreasing-with_member, has_member-below, has_member_tail, length-with_member}
 use Rattle.ballot_base.proofs.ListLemmas.{AllByRecursion-append}
 use Rattle.tie_walk.specs.Ceilings.{IsBound}
-use Rattle.tie_walk.specs.Steps.Walks.{committees_below, committees_after, committees_from, IsPlace, IsFound, those_reaching}
-use Rattle.tie_walk.specs.declared.prefix.Prefix.{Prefix}
+use Rattle.tie_walk.specs.Steps.Walks.{committees_below, committees_after, committees_from, IsPlace, those_reaching}
+use Rattle.tie_walk.specs.declared.walk.Prefix.{Prefix}
 use Rattle.tie_walk.specs.Winners.{best_value}
 use Rattle.tie_walk.proofs.WalkLemmas.{below-bounded, from-root}
 use Rattle.tie_walk.proofs.WinnersLemmas.{greatest, greatest-low, greatest-most, greatest-next, greatest-first}
@@ -73,11 +73,15 @@ module _ (value : List ℕ → ℕ) (m k : ℕ) where
   pub best-reached : (best bound : ℕ) (rest : List (List ℕ)) → greatest value best rest ≡ best_value value m k → IsBound value m 0 [] k bound → bound ≤ best → best ≡ best_value value m k
   best-reached best bound rest is law reached = omega (arith, is, greatest-low value best rest, best-most bound law, reached)
 
--- one more that was found may take the place of the greatest so far
-pub greatest-found : (value : List ℕ → ℕ) (m k best n floor : ℕ) (from rest : Option Prefix) (set : List ℕ) → IsFound value m k floor from set rest → n ≡ value set
-    → greatest value floor (committees_from m k from) ≡ best → greatest value n (committees_from m k rest) ≡ best
-greatest-found value m k best n floor from rest set found is so_far =
-    ap (λ x. greatest value x (committees_from m k rest)) is ∙ greatest-next value floor (committees_from m k from) (committees_from m k rest) set found.next found.above ∙ so_far
+-- one more that was found is a committee above the greatest so far, and may take its place
+pub greatest-found : (value : List ℕ → ℕ) (m k best floor : ℕ) (from rest : Option Prefix) (set : List ℕ) → IsPlace m k from
+    → those_reaching value (floor + 1) (committees_from m k from) ≡ set ∷ those_reaching value (floor + 1) (committees_from m k rest)
+    → greatest value floor (committees_from m k from) ≡ best
+    → IsIncreasing 1 m set × (floor < value set) × (greatest value (value set) (committees_from m k rest) ≡ best)
+greatest-found value m k best floor from rest set place next so_far =
+    let here = first-reaching (IsIncreasing 1 m) value (floor + 1) (committees_from m k from) (those_reaching value (floor + 1) (committees_from m k rest)) set (from-candidates m k from place) next in
+    let above : floor < value set = omega (arith, here.1) in
+    (here.0, above, greatest-next value floor (committees_from m k from) (committees_from m k rest) set next above ∙ so_far)
 
 -- ---- members
 

@@ -16,8 +16,7 @@ use Rattle.ballot_base.proofs.Later.{is_later-self}
 use Rattle.ballot_base.proofs.ListLemmas.{AllByRecursion-weaker}
 use Rattle.tie_walk.specs.Ceilings.{is_open, is_ahead, live_below, live_count}
 use Rattle.tie_walk.specs.Steps.Walks.{committees_after, those_reaching, open_after, IsPast, IsBegun}
-use Rattle.tie_walk.specs.declared.prefix.Prefix.{Prefix}
-use Rattle.tie_walk.specs.declared.walk.Counts.{Counts}
+use Rattle.tie_walk.specs.declared.walk.Prefix.{Prefix}
 use Rattle.tie_walk.proofs.LiveLemmas.{upto-all, upto-increasing, upto-next, upto-rest, ahead-start, live-open, live-parts, live-past, live-shut, place-upto}
 use Rattle.tie_walk.proofs.OpenLemmas.{open_after-push, open-past, shut-large}
 use Rattle.tie_walk.proofs.WaitLemmas.{work-most}
@@ -93,16 +92,16 @@ module _ (m k : ℕ) (start : List ℕ) (up : IsIncreasing 1 m start) (size : le
           grind (arith, common_steps, cases_lt, live-past, Some, ahead-before, live-shut, shut-large, length-append)
 
   -- the first place of a walk that left the way down to the start at a beginning of it
-  pub begun : (value : List ℕ → ℕ) (bound : ℕ → List ℕ → ℕ → ℕ) (best n : ℕ) (next : Option Prefix) (counts : Counts) → m ≤ most_candidates → n ≤ m
+  pub begun : (value : List ℕ → ℕ) (bound : ℕ → List ℕ → ℕ → ℕ) (best n : ℕ) (next : Option Prefix) (entered ceilings : ℕ) → m ≤ most_candidates → n ≤ m
       → IsPast (prefix_at n (members_upto start n)) next
       → those_reaching value best (committees_after m k [] (members_upto start n)) ≡ those_reaching value best (later_than (Some start) (increasing_lists 1 m k))
       → live_below bound m k best (Some start) (m - n) n (members_upto start n) ≡ 0
       → live_count bound m k best (Some start)
       ≤ n + live_below bound m k best (Some start) (m - n) n (members_upto start n) + open_after bound m k best [] (members_upto start n)
       → live_below bound m k best (Some start) (m - n) n (members_upto start n) + open_after bound m k best [] (members_upto start n) ≤ live_count bound m k best (Some start)
-      → counts.entered ≡ n → n ≤ counts.ceilings → counts.ceilings ≤ n + 1
-      → IsBegun value bound m k best (Some start) (record { place = next; counts = counts })
-  begun value bound best n next counts most low past left nothing all few entered asked once =
+      → entered ≡ n → ceilings ≤ n + 1
+      → IsBegun value bound m k best (Some start) (record { place = next; entered = entered; ceilings = ceilings })
+  begun value bound best n next entered ceilings most low past left nothing all few entered-is once =
       let place : Prefix = prefix_at n (members_upto start n) in
       let still = open-past bound m k best place next past in
       let rest = place-past m k place next (place-upto m k n start place.set low up size refl) past in
@@ -110,10 +109,9 @@ module _ (m k : ℕ) (start : List ℕ) (up : IsIncreasing 1 m start) (size : le
         next = ap (those_reaching value best) (from-past m k place next past) ∙ left;
         place = rest;
         counted = record {
-          all = omega (arith, still, nothing, all, entered);
-          few = omega (arith, still, few, entered, low);
+          all = omega (arith, still, nothing, all, entered-is);
+          few = omega (arith, still, few, entered-is, low);
           exact = λ e. absurd (cc);
-          asked = omega (arith, entered, asked);
           fits = omega (arith, once, low, most, work-most m k next most rest);
         };
       }

@@ -7,10 +7,10 @@ use Rattle.std.proofs.Math.Nat.{pow-suc, pow-le-pow_right}
 use Rattle.std.proofs.lemmas.Bool.{cases_Bool, cases_lt, le-leb, lt-leb, leb-true, and_parts, and_from}
 use Rattle.std.proofs.lemmas.List.Elements.{filter-append}
 use Rattle.ballot_base.specs.Lists.{IsIncreasing}
-use Rattle.ballot_base.proofs.Increasing.{with_member-above}
+use Rattle.ballot_base.proofs.Increasing.{IsIncreasing-push, IsIncreasing-higher, with_member-above}
 use Rattle.tie_walk.specs.Ceilings.{IsBound, is_open}
 use Rattle.tie_walk.specs.Steps.Walks.{committees_below, committees_from, IsPlace, IsPast, work_left, those_reaching, open_below, open_after, open_from}
-use Rattle.tie_walk.specs.declared.prefix.Prefix.{Prefix}
+use Rattle.tie_walk.specs.declared.walk.Prefix.{Prefix}
 use Rattle.tie_walk.proofs.WalkLemmas.{below-full, below-short, below-bounded, from-grown, from-past, work-grown}
 
 -- ---- committees that reach the best value
@@ -62,6 +62,11 @@ module _ (m k : ℕ) where
       → (committees_from m k (Some next) ≡ committees_from m k (Some prefix)) × (work_left m (Some next) < work_left m (Some prefix))
   from-first prefix next more here at grown full =
       grind (arith, common_steps, cases_lt, from-grown, work-grown, below-full, shrinks)
+
+  pub place-first : (prefix next : Prefix) → prefix.c < m → IsPlace m k (Some prefix) → next.c ≡ prefix.c + 1
+      → (length prefix.set < k → next.set ≡ prefix.set ++ (prefix.c + 1) ∷ []) → (length prefix.set ≡ k → next.set ≡ prefix.set) → IsPlace m k (Some next)
+  place-first prefix next more here at grown full =
+      grind (arith, common_steps, cases_lt, IsIncreasing-push, IsIncreasing-higher, length-append)
 
 -- ---- prefixes still to be entered
 

@@ -13,7 +13,7 @@ use Rattle.ballot_base.specs.Lists.{IsIncreasing, increasing_lists}
 use Rattle.ballot_base.proofs.Committees.{increasing_lists-contains, length-increasing}
 use Rattle.tie_walk.specs.Ceilings.{IsAdded, IsTight, IsExactAtBest, is_open}
 use Rattle.tie_walk.specs.Steps.Walks.{committees_below, IsPlace, IsPast, work_left, those_reaching, is_alive, waits_at, waits_after, waits_from}
-use Rattle.tie_walk.specs.declared.prefix.Prefix.{Prefix}
+use Rattle.tie_walk.specs.declared.walk.Prefix.{Prefix}
 use Rattle.tie_walk.proofs.OpenLemmas.{open-sizes, open-reaches}
 use Rattle.tie_walk.proofs.WalkLemmas.{below-split, below-full}
 

@@ -3,9 +3,8 @@
 use Rattle.std.specs.Borrow.{Bor}
 use Rattle.std.proofs.Common.{sym, ◌≡◌, ℕ, ◌+◌, ◌*◌, List, [], ◌∷◌, true, false, refl, lit≤, lit<, Some, None, sum}
 use Rattle.ballot_base.specs.Lists.{lists_of}
-use Rattle.tie_walk.specs.Steps.Walks.{committees_below, committees_after, committees_from, IsPlace, IsPast, work_left, IsFound, those_reaching, open_below, open_after, open_from, Progress, IsStride, is_alive, waits_at, waits_after, waits_from, IsWait, IsRaised, IsBegun, IsCounted, IsWalk, IsWinning, aim, aim_at, progress}
-use Rattle.tie_walk.specs.declared.prefix.Prefix.{Prefix}
-use Rattle.tie_walk.specs.declared.walk.Counts.{Counts}
+use Rattle.tie_walk.specs.Steps.Walks.{committees_below, committees_after, committees_from, IsPlace, IsPast, work_left, those_reaching, open_below, open_after, open_from, Progress, IsStride, is_alive, waits_at, waits_after, waits_from, IsWait, IsRaised, IsBegun, IsCounted, IsWalk, IsWinning, aim, aim_at, progress}
+use Rattle.tie_walk.specs.declared.walk.Prefix.{Prefix}
 use Rattle.tie_walk.specs.declared.walk.Walk.{Walk}
 
 with_one : Prefix
@@ -53,31 +52,15 @@ work_of_one : work_left 3 (Some with_one) ≡ 18
 unfolding with_one
 work_of_one = refl
 
--- the first above 3 is 1 and 3, and 2 and 3 is still to come
-found_above_three : IsFound sum 3 2 3 (Some with_one) (1 ∷ 3 ∷ []) (Some without_one)
-unfolding lists_of with_one without_one
-found_above_three = record {
-  next = refl;
-  candidates = (lit≤ tt, lit≤ tt, (lit≤ tt, lit≤ tt, tt));
-  above = lit< tt;
-  place = (lit≤ tt, tt, lit≤ tt);
-}
-
 -- ---- the walk over the winners, where a bound takes 3 for each open seat and the best value is 5
 bound_of_three : ℕ → List ℕ → ℕ → ℕ
 bound_of_three c set left = sum set + 3 * left
 
-one_entered : Counts
-one_entered = record { entered = 1; ceilings = 1 }
-
-one_of_two_entered : Counts
-one_of_two_entered = record { entered = 1; ceilings = 2 }
-
 first_with_one : Progress
-first_with_one = record { place = Some with_one; counts = one_entered }
+first_with_one = record { place = Some with_one; entered = 1; ceilings = 1 }
 
 first_without_one : Progress
-first_without_one = record { place = Some without_one; counts = one_of_two_entered }
+first_without_one = record { place = Some without_one; entered = 1; ceilings = 2 }
 
 one_reaches_five : those_reaching sum 5 ((1 ∷ 2 ∷ []) ∷ (1 ∷ 3 ∷ []) ∷ (2 ∷ 3 ∷ []) ∷ []) ≡ (2 ∷ 3 ∷ []) ∷ []
 one_reaches_five = refl
@@ -97,12 +80,12 @@ three_open_from_one = refl
 
 -- with 1 the bound is 4
 past_one_is_a_stride : IsStride sum bound_of_three 3 2 5 (Some with_one) 1 None first_without_one
-unfolding lists_of bound_of_three with_one without_one one_of_two_entered first_without_one
+unfolding lists_of bound_of_three with_one without_one first_without_one
 past_one_is_a_stride = record { next = refl; count = refl; place = (lit≤ tt, tt, lit≤ tt) }
 
 -- a bound was asked for, which did not let the walk in; of 18 places 9 are left
-raised_past_one : IsRaised 3 (Some with_one) one_entered first_without_one
-unfolding with_one without_one one_entered one_of_two_entered first_without_one
+raised_past_one : IsRaised 3 (Some with_one) first_with_one first_without_one
+unfolding with_one without_one first_with_one first_without_one
 raised_past_one = record { entered = lit≤ tt; asked = lit≤ tt; work = lit≤ tt }
 
 -- ---- how many bounds are asked for at most until 2 and 3 is found
@@ -127,22 +110,22 @@ six_from_one : waits_from sum 3 2 5 (Some with_one) ≡ 6
 unfolding lists_of with_one
 six_from_one = refl
 
-wait_past_one : IsWait sum 3 2 5 (Some with_one) one_entered None first_without_one
-unfolding lists_of with_one without_one one_entered one_of_two_entered first_without_one
+wait_past_one : IsWait sum 3 2 5 (Some with_one) first_with_one None first_without_one
+unfolding lists_of with_one without_one first_with_one first_without_one
 wait_past_one = lit≤ tt
 
 counted_with_one : IsCounted bound_of_three 3 2 5 None first_with_one
-unfolding lists_of bound_of_three with_one one_entered first_with_one
-counted_with_one = record { all = lit≤ tt; few = lit≤ tt; exact = λ e. refl; asked = lit≤ tt; fits = lit< tt }
+unfolding lists_of bound_of_three with_one first_with_one
+counted_with_one = record { all = lit≤ tt; few = lit≤ tt; exact = λ e. refl; fits = lit< tt }
 
 begun_with_one : IsBegun sum bound_of_three 3 2 5 None first_with_one
-unfolding lists_of bound_of_three with_one one_entered first_with_one
+unfolding lists_of bound_of_three with_one first_with_one
 begun_with_one = record { next = refl; place = (lit≤ tt, (lit≤ tt, lit≤ tt, tt), lit≤ tt); counted = counted_with_one }
 
 -- a walk of a tally that shows its number of candidates
 module _ (three : Bor ℕ) (is : three.now ≡ 3) where
   first_walk : Walk ℕ
-  first_walk = record { tally = three; m = 3; k = 2; best = 5; place = Some with_one; counts = one_entered }
+  first_walk = record { tally = three; m = 3; k = 2; best = 5; place = Some with_one; entered = 1; ceilings = 1 }
 
   pairs_of_five : aim first_walk ≡ aim_at three.now 3 2 5
   unfolding first_walk
@@ -160,6 +143,7 @@ module _ (three : Bor ℕ) (is : three.now ≡ 3) where
     some = lit≤ tt;
     fits = lit≤ tt;
     place_is = (lit≤ tt, (lit≤ tt, lit≤ tt, tt), lit≤ tt);
+    asked = lit≤ tt;
   }
 
   winning_pairs : IsWinning (λ m. m) (λ m. bound_of_three) None first_walk

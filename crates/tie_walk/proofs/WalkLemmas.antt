@@ -13,7 +13,7 @@ use Rattle.ballot_base.proofs.Committees.{IsChosen, increasing_lists-chosen, inc
 use Rattle.ballot_base.proofs.Increasing.{IsIncreasing-filter}
 use Rattle.tie_walk.specs.Ceilings.{IsBound}
 use Rattle.tie_walk.specs.Steps.Walks.{committees_below, committees_after, committees_from, IsPlace, IsPast, work_left}
-use Rattle.tie_walk.specs.declared.prefix.Prefix.{Prefix}
+use Rattle.tie_walk.specs.declared.walk.Prefix.{Prefix}
 use Rattle.tie_walk.proofs.GreatestSums.{lists-short, lists-empty, lists-more}
 use Rattle.tie_walk.proofs.StartLemmas.{later_than-at}
 

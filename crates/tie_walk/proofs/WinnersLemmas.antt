@@ -66,11 +66,16 @@ committees-increasing m k =
 pub greatest-low : (value : List ℕ → ℕ) (low : ℕ) (sets : List (List ℕ)) → low ≤ greatest value low sets
 greatest-low value low sets = low-greatest value low sets
 
--- those that are not above a floor do not matter to the greatest of a number that is no smaller, and of them all
-pub greatest-above : (value : List ℕ → ℕ) (floor low : ℕ) (sets : List (List ℕ)) → floor ≤ low → greatest value low (those_reaching value (floor + 1) sets) ≡ greatest value low sets
-greatest-above value floor low [] h = refl
-greatest-above value floor low (set ∷ sets) h =
-    grind (arith, common_steps, greatest-above value floor (max low (value set)) sets (omega (arith, h)), greatest-above value floor low sets h, cases_lt, le-leb, max, lt-leb)
+-- those that do not reach what is at most one above a number do not matter to the greatest of the number and of them all
+pub greatest-above : (value : List ℕ → ℕ) (least low : ℕ) (sets : List (List ℕ)) → least ≤ low + 1 → greatest value low (those_reaching value least sets) ≡ greatest value low sets
+greatest-above value least low [] h = refl
+greatest-above value least low (set ∷ sets) h =
+    grind (arith, common_steps, greatest-above value least (max low (value set)) sets (omega (arith, h)), greatest-above value least low sets h, cases_lt, le-leb, max, lt-leb)
+
+-- those from the number on decide alone
+pub greatest-begun : (value : List ℕ → ℕ) (low : ℕ) (sets others : List (List ℕ)) → those_reaching value low sets ≡ those_reaching value low others → greatest value low sets ≡ greatest value low others
+greatest-begun value low sets others is =
+    sym (greatest-above value low low sets (omega arith)) ∙ ap (greatest value low) is ∙ greatest-above value low low others (omega arith)
 
 -- the next one above the floor is the next greatest
 pub greatest-next : (value : List ℕ → ℕ) (floor : ℕ) (sets rest : List (List ℕ)) (set : List ℕ) → those_reaching value (floor + 1) sets ≡ set ∷ those_reaching value (floor + 1) rest → floor < value set
@@ -79,11 +84,11 @@ greatest-next value floor sets rest set next above =
     let over : floor ≤ value set = omega (arith, above) in
     let same : max floor (value set) ≡ value set = omega (arith, over) in
     sym (
-    sym (greatest-above value floor floor sets (omega arith)) ∙ ap (greatest value floor) next ∙ ap (λ n. greatest value n (those_reaching value (floor + 1) rest)) same
-    ∙ greatest-above value floor (value set) rest over)
+    sym (greatest-above value (floor + 1) floor sets (omega arith)) ∙ ap (greatest value floor) next ∙ ap (λ n. greatest value n (those_reaching value (floor + 1) rest)) same
+    ∙ greatest-above value (floor + 1) (value set) rest (omega (arith, over)))
 
 pub greatest-done : (value : List ℕ → ℕ) (floor : ℕ) (sets : List (List ℕ)) → those_reaching value (floor + 1) sets ≡ [] → greatest value floor sets ≡ floor
-greatest-done value floor sets none = sym (greatest-above value floor floor sets (omega arith)) ∙ ap (greatest value floor) none
+greatest-done value floor sets none = sym (greatest-above value (floor + 1) floor sets (omega arith)) ∙ ap (greatest value floor) none
 
 -- what bounds a number and all values bounds the greatest
 pub greatest-most : (value : List ℕ → ℕ) (low bound : ℕ) (sets : List (List ℕ)) → low ≤ bound → AllByRecursion (λ set. value set ≤ bound) sets → greatest value low sets ≤ bound

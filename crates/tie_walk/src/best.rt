@@ -1,13 +1,11 @@
 //! The highest value of a committee, by the same walk that lists the winners.
 //!
-//! The search begins with the value of a good committee (module `good`). It goes on to a committee with a value above
-//! the highest so far, until there is none, or no bound leaves room for one.
-ghost use Rattle.std.specs.Prelude.{◌≡◌, ◌+◌, ◌^◌, ◌<◌, ◌≤◌, [], MatchOption};
-ghost use Rattle.tie_walk.specs.Steps.Walks.{committees_from, those_reaching, IsPlace, IsFound};
+//! The search begins with the value of a good committee: the candidates who raise the value most, added one by one. It
+//! goes on to a committee with a value above the highest so far, until there is none, or no bound leaves room for one.
+ghost use Rattle.std.specs.Prelude.{◌≡◌, ◌+◌, ◌<◌, ◌≤◌, length};
+ghost use Rattle.ballot_base.specs.Lists.{IsIncreasing};
 ghost use Rattle.tie_walk.specs.Winners.{best_value};
 
-use crate::good::grown_committee;
-use crate::prefix::Prefix;
 use crate::tally::Tally;
 use crate::walk::Walk;
 use ballot_base::CandSet;
@@ -18,35 +16,48 @@ pub(crate) fn greatest_value<T: Tally>(tally: &T, k: u8) -> u128
     requires fits { k ≤ T.candidates tally.now }
     ensures { result ≡ best_value (T.value_of tally.now) (T.candidates tally.now) k }
 {
-    let mut best = tally.value(grown_committee(tally, k));
+    let mut best = tally.value(good_committee(tally, k));
     let bound = tally.bound(0, CandSet::empty(), k);
-    let mut place = Some(Prefix::root());
+    let mut walk = Walk::begin(tally, k, best, &None);
     while best < bound {
-        let Some((committee, rest)) = next_above(tally, k, best, place) else {
-            return best;
-        };
+        walk.best = best + 1;
+        let Some(committee) = walk.next() else { break };
         best = tally.value(committee);
-        place = rest;
     }
     best
 }
 
-/// The next committee with a value above the floor, and the place at which the walk goes on.
-fn next_above<T: Tally>(
-    tally: &T,
-    k: u8,
-    floor: u128,
-    place: Option<Prefix>,
-) -> Option<(CandSet, Option<Prefix>)>
-    requires some { 1 ≤ k }
+/// A committee of size k: the candidates who raise the value most, added one after another.
+fn good_committee<T: Tally>(tally: &T, k: u8) -> CandSet
     requires fits { k ≤ T.candidates tally.now }
-    requires place { IsPlace (T.candidates tally.now) k place }
-    requires low { floor + 1 < 2 ^ 128 }
-    ensures { MatchOption result
-        (those_reaching (T.value_of tally.now) (floor + 1) (committees_from (T.candidates tally.now) k place) ≡ [])
-        (λ found. IsFound (T.value_of tally.now) (T.candidates tally.now) k floor place found.0 found.1) }
+    ensures candidates { IsIncreasing 1 (T.candidates tally.now) result }
+    ensures size { length result ≡ k }
 {
-    let mut walk = Walk::new(tally, k, floor + 1, place);
-    let committee = walk.next()?;
-    Some((committee, walk.place))
+    let mut set = CandSet::empty();
+    for _size in 0..k {
+        set = with_best(tally, set);
+    }
+    set
+}
+
+/// The set with one more candidate, the one who raises its value most.
+fn with_best<T: Tally>(tally: &T, set: CandSet) -> CandSet
+    requires members { IsIncreasing 1 (T.candidates tally.now) set }
+    requires room { length set < T.candidates tally.now }
+    ensures candidates { IsIncreasing 1 (T.candidates tally.now) result }
+    ensures size { length result ≡ length set + 1 }
+{
+    let mut best = 0;
+    let mut grown = None;
+    for n in 1..tally.m() + 1 {
+        if !set.has(n) {
+            let more = set.with(n);
+            let value = tally.value(more);
+            if value >= best {
+                best = value;
+                grown = Some(more);
+            }
+        }
+    }
+    grown.unwrap_or(set)
 }

@@ -7,10 +7,8 @@
 #![tactic(auto)]
 
 mod best;
-mod good;
 pub mod laws;
 pub mod minimax;
-mod prefix;
 pub mod satisfaction;
 pub mod sequential;
 pub mod tally;

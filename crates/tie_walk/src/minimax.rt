@@ -1,9 +1,9 @@
 //! Minimax approval voting in its plain form. `near_search` uses its `value` and `bound`; only tests walk over it.
 //!
 //! The bound of a prefix comes from the distances on the candidates decided so far, which only grow.
-ghost use Rattle.std.specs.Prelude.{◌≡◌, ◌≤◌};
-ghost use Rattle.ballot_base.specs.Lists.{IsIncreasing};
-ghost use Rattle.tie_walk.specs.Ceilings.{greatest_distance_upto, closeness_upto};
+ghost use Rattle.std.specs.Prelude.{◌≡◌};
+ghost use Rattle.ballot_base.specs.Ballots.{Election};
+ghost use Rattle.tie_walk.specs.Ceilings.{closeness_upto};
 ghost use Rattle.tie_walk.specs.Values.{closeness};
 
 use crate::tally::Tally;
@@ -19,8 +19,6 @@ pub struct MinimaxTally<'a, A: Allocator + Copy = Global> {
 }
 
 impl<'a, A: Allocator + Copy> Model for MinimaxTally<'a, A> {
-    ghost use Rattle.ballot_base.specs.Ballots.{Election};
-
     ghost Value = { Election };
 
     ghost view = { λ t. t.profile.now };
@@ -47,24 +45,14 @@ impl<'a, A: Allocator + Copy> Tally for MinimaxTally<'a, A> {
     }
 
     fn value(&self, set: CandSet) -> u128 {
-        u128::from(self.profile.m() - farthest_upto(self.profile, self.profile.m(), set))
+        self.bound(self.profile.m(), set, 0)
     }
 
     fn bound(&self, c: u8, set: CandSet, _left: u8) -> u128 {
-        u128::from(self.profile.m() - farthest_upto(self.profile, c, set))
+        let mut greatest = 0;
+        for (ballot, _voters) in self.profile.ballots() {
+            greatest = greatest.max(ballot.upto(c).distance(set));
+        }
+        u128::from(self.profile.m() - greatest)
     }
-}
-
-/// The maximum distance of a ballot from the set, on the candidates 1 to c.
-fn farthest_upto<A: Allocator + Copy>(profile: &Profile<A>, c: u8, set: CandSet) -> u8
-    requires within { c ≤ profile.now.m }
-    requires candidates { IsIncreasing 1 c set }
-    ensures value { result ≡ greatest_distance_upto c profile.now.rows set }
-    ensures most { result ≤ profile.now.m }
-{
-    let mut greatest = 0;
-    for (ballot, _voters) in profile.ballots() {
-        greatest = greatest.max(ballot.upto(c).distance(set));
-    }
-    greatest
 }

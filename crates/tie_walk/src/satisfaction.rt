@@ -1,9 +1,10 @@
 //! The values of satisfaction approval voting. The bound of a prefix is the value of some committee below it, as under
 //! approval voting (`laws::tight_bounds`).
-ghost use Rattle.std.specs.Prelude.{◌≡◌, ℕ, ◌^◌, ◌<◌, slice_index};
+ghost use Rattle.std.specs.Prelude.{◌≡◌, ℕ};
+ghost use Rattle.ballot_base.specs.Ballots.{Election};
 ghost use Rattle.tie_walk.specs.Ceilings.{IsTight, ceiling};
 ghost use Rattle.tie_walk.specs.Values.{satisfaction_value};
-ghost use Rattle.tie_walk.specs.Steps.Tables.{parts, score};
+ghost use Rattle.tie_walk.specs.Steps.Tables.{parts, IsSatisfaction};
 
 use crate::tally::{Tally, greatest_sum};
 use ballot_base::{CandSet, PLACES, Profile, Worths, common_multiple};
@@ -20,9 +21,6 @@ pub struct SavTally<'a, A: Allocator + Copy = Global> {
 }
 
 impl<'a, A: Allocator + Copy> Model for SavTally<'a, A> {
-    ghost use Rattle.ballot_base.specs.Ballots.{Election};
-    ghost use Rattle.tie_walk.specs.Steps.Tables.{IsSatisfaction};
-
     ghost Value = { Election };
 
     ghost view = { λ t. t.profile.now };
@@ -38,10 +36,13 @@ impl<'a, A: Allocator + Copy> SavTally<'a, A> {
         ensures tight { let tallies = ⟦<SavTally<'a, A> as Tally>⟧ in (k : ℕ)
             → IsTight (tallies.value_of result) (tallies.bound_of result) (tallies.candidates result) k }
     {
-        SavTally {
-            profile,
-            scores: scores(profile, &parts(common_multiple(profile.m()))),
+        let shares = parts(common_multiple(profile.m()));
+        let mut scores = Worths::none();
+        for (ballot, voters) in profile.ballots() {
+            let share = shares[usize::from(ballot.len())];
+            scores.add(ballot, u128::from(voters) * share);
         }
+        SavTally { profile, scores }
     }
 }
 
@@ -74,17 +75,4 @@ fn parts(whole: u128) -> [u128; PLACES]
         parts[n] = whole / n as u128;
     }
     parts
-}
-
-/// What each candidate adds to a committee: the shares of the voters who approve the candidate.
-fn scores<A: Allocator + Copy>(profile: &Profile<A>, shares: &[u128; PLACES]) -> Worths
-    requires { (n : ℕ) → slice_index shares.now n < 2 ^ 90 }
-    ensures { (c : ℕ) → slice_index result c ≡ score shares.now profile.now.rows c }
-{
-    let mut totals = Worths::none();
-    for (ballot, voters) in profile.ballots() {
-        let share = shares[usize::from(ballot.len())];
-        totals.add(ballot, u128::from(voters) * share);
-    }
-    totals
 }

@@ -1,13 +1,13 @@
 //! The values of Thiele's rules: one pass over the rows, with a table that is made once. The bound of a prefix is the
 //! value of its set plus the highest gains at it, since gains only fall as a committee grows.
-ghost use Rattle.std.specs.Prelude.{◌≡◌, ℕ, ◌^◌, ◌<◌, ◌≤◌, true, sum, slice_index};
+ghost use Rattle.std.specs.Prelude.{◌≡◌, ℕ, ◌^◌, ◌≤◌, true, slice_index};
 ghost use Rattle.ballot_base.specs.Limits.{most_members};
 ghost use Rattle.ballot_base.specs.CandSet.{has_member};
 ghost use Rattle.ballot_base.specs.Increments.{increments};
 ghost use Rattle.tie_walk.specs.Ceilings.{IsTight, ceiling};
 ghost use Rattle.tie_walk.specs.Sequences.{gain};
-ghost use Rattle.tie_walk.specs.Values.{tally_value, thiele_of};
-ghost use Rattle.tie_walk.specs.Steps.Tables.{prefix_sums};
+ghost use Rattle.tie_walk.specs.Values.{Thiele, tally_value, thiele_of};
+ghost use Rattle.tie_walk.specs.Steps.Tables.{IsThiele};
 
 use crate::sequential::Step;
 use crate::tally::{Tally, greatest_sum};
@@ -32,9 +32,6 @@ pub struct ThieleTally<'a, A: Allocator + Copy = Global> {
 }
 
 impl<'a, A: Allocator + Copy> Model for ThieleTally<'a, A> {
-    ghost use Rattle.tie_walk.specs.Values.{Thiele, thiele_of};
-    ghost use Rattle.tie_walk.specs.Steps.Tables.{IsThiele};
-
     ghost Value = { Thiele };
 
     ghost view = { λ t. thiele_of t.profile.now t.rule t.k };
@@ -53,7 +50,11 @@ impl<'a, A: Allocator + Copy> ThieleTally<'a, A> {
             → IsTight (tallies.value_of result) (tallies.bound_of result) (tallies.candidates result) result.k }
     {
         let weights = Increments::of(rule, k).w;
-        let sums = prefix_sums(weights);
+        let mut sums = [0; PLACES];
+        for x in 0..usize::from(MOST_CANDIDATES) {
+            let more = if x < weights.len() { weights[x] } else { 0 };
+            sums[x + 1] = sums[x] + more;
+        }
         ThieleTally {
             profile,
             m: profile.m(),
@@ -123,17 +124,4 @@ impl<'a, A: Allocator + Copy> Tally for ThieleTally<'a, A> {
         let gains = self.gains(set, CandSet::after(c, self.m));
         self.value(set) + greatest_sum(&gains, c, self.m, left)
     }
-}
-
-/// The sum of the first x of these numbers, at x.
-fn prefix_sums(w: [u128; MOST_MEMBERS as usize]) -> [u128; PLACES]
-    requires { sum w < 2 ^ 128 }
-    ensures { result ≡ prefix_sums w }
-{
-    let mut sums = [0; PLACES];
-    for x in 0..usize::from(MOST_CANDIDATES) {
-        let more = if x < w.len() { w[x] } else { 0 };
-        sums[x + 1] = sums[x] + more;
-    }
-    sums
 }

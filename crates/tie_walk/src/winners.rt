@@ -10,9 +10,10 @@
 //! tally whose bounds are each the value of some committee (`IsTight`) is exact, whatever is best
 //! (`laws::tight_bounds`).
 ghost use Rattle.std.specs.Prelude.{◌≡◌, ◌+◌, ◌≤◌};
+ghost use Rattle.std.specs.Iterator.{item_count};
 ghost use Rattle.ballot_base.specs.Lists.{later_than};
 ghost use Rattle.tie_walk.specs.Ceilings.{live_count};
-ghost use Rattle.std.specs.Iterator.{item_count};
+ghost use Rattle.tie_walk.specs.Steps.Walks.{IsWinning, committees_from, those_reaching};
 ghost use Rattle.tie_walk.specs.Winners.{Winning, IsStart, IsNextWinner, best_value, winners};
 
 use crate::best::greatest_value;
@@ -31,9 +32,6 @@ pub struct Winners<'a, T: Tally> {
 }
 
 impl<'a, T: Tally> Model for Winners<'a, T> {
-    ghost use Rattle.tie_walk.specs.Steps.Walks.{IsWinning, committees_from, those_reaching};
-    ghost use Rattle.tie_walk.specs.Winners.{Winning};
-
     ghost Value = { Winning T };
 
     ghost view = { λ w. record {
@@ -43,8 +41,8 @@ impl<'a, T: Tally> Model for Winners<'a, T> {
       after = w.after;
       best = w.walk.best;
       left = those_reaching (T.value_of w.walk.tally.now) w.walk.best (committees_from w.walk.m w.walk.k w.walk.place);
-      entered = w.walk.counts.entered;
-      ceilings = w.walk.counts.ceilings;
+      entered = w.walk.entered;
+      ceilings = w.walk.ceilings;
     } };
 
     ghost invariant = { λ w. IsWinning T.candidates T.bound_of w.after w.walk };
@@ -67,10 +65,7 @@ impl<'a, T: Tally> Winners<'a, T> {
         ensures left { result.left ≡ later_than after (winners (T.value_of tally.now) m k) }
     {
         let best = greatest_value(tally, k);
-        let walk = match after {
-            Some(set) => Walk::begin_after(tally, k, best, set),
-            None => Walk::begin(tally, k, best),
-        };
+        let walk = Walk::begin(tally, k, best, &after);
         Winners { walk, after }
     }
 
@@ -90,7 +85,7 @@ impl<'a, T: Tally> Winners<'a, T> {
         ensures most { result ≤ live_count (T.bound_of self.now.tally) self.now.m self.now.k self.now.best
             self.now.after + self.now.m }
     {
-        self.walk.counts.entered
+        self.walk.entered
     }
 
     /// The number of bounds that the walk to the winners has asked for so far. It asks for one at each prefix at which
@@ -100,7 +95,7 @@ impl<'a, T: Tally> Winners<'a, T> {
         ensures count { result ≡ self.now.ceilings }
         ensures entered { self.now.entered ≤ result }
     {
-        self.walk.counts.ceilings
+        self.walk.ceilings
     }
 }
 

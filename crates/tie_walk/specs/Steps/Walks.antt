@@ -4,9 +4,8 @@ use Rattle.std.specs.List.{list_any}
 use Rattle.ballot_base.specs.Limits.{most_candidates}
 use Rattle.ballot_base.specs.Lists.{IsIncreasing, increasing_lists, later_than}
 use Rattle.ballot_base.specs.CandSet.{with_member}
-use Rattle.tie_walk.specs.Ceilings.{is_open, live_count}
-use Rattle.tie_walk.specs.declared.prefix.Prefix.{Prefix}
-use Rattle.tie_walk.specs.declared.walk.Counts.{Counts}
+use Rattle.tie_walk.specs.Ceilings.{IsExactAtBest, is_open, live_count}
+use Rattle.tie_walk.specs.declared.walk.Prefix.{Prefix}
 use Rattle.tie_walk.specs.declared.walk.Walk.{Walk}
 
 -- the committees of k of the candidates 1 to m whose members up to c are exactly the set, which has at most k
@@ -41,15 +40,6 @@ work_left m (Some prefix) = 3 ^ (m - prefix.c) + sum_by (λ n. 3 ^ (m - n)) pref
 -- the committees whose value reaches the best
 abbrev pub those_reaching : (List ℕ → ℕ) → ℕ → List (List ℕ) → List (List ℕ)
 those_reaching value best committees = filter (λ set. nat_le best (value set)) committees
-
--- the next committee with a value above the floor, and where the walk goes on
-pub record IsFound (value : List ℕ → ℕ) (m k floor : ℕ) (from : Option Prefix) (set : List ℕ)
-    (rest : Option Prefix) : Type 0 where
-  pub next : those_reaching value (floor + 1) (committees_from m k from)
-      ≡ set ∷ those_reaching value (floor + 1) (committees_from m k rest)
-  pub candidates : IsIncreasing 1 m set
-  pub above : floor < value set
-  pub place : IsPlace m k rest
 
 module _ (bound : ℕ → List ℕ → ℕ → ℕ) (m k best : ℕ) where
   -- how many prefixes begin with c and the set, if `rest` candidates come after c and each beginning from c on is open
@@ -86,17 +76,18 @@ aim walk = aim_at walk.tally.now walk.m walk.k walk.best
 -- where a walk goes on, and what it has counted
 pub record Progress : Type 0 where
   pub place : Option Prefix
-  pub counts : Counts
+  pub entered : ℕ
+  pub ceilings : ℕ
 
 abbrev pub progress : {T : Type 0} → Walk T → Progress
-progress walk = record { place = walk.place; counts = walk.counts }
+progress walk = record { place = walk.place; entered = walk.entered; ceilings = walk.ceilings }
 
 -- a part of the walk over the winners: which winner it finds, and where it goes on
 pub record IsStride (value : List ℕ → ℕ) (bound : ℕ → List ℕ → ℕ → ℕ) (m k best : ℕ) (from : Option Prefix)
     (entered : ℕ) (found : Option (List ℕ)) (rest : Progress) : Type 0 where
   pub next : those_reaching value best (committees_from m k from)
       ≡ option_to_list found ++ those_reaching value best (committees_from m k rest.place)
-  pub count : rest.counts.entered + open_from bound m k best rest.place ≡ entered + open_from bound m k best from
+  pub count : rest.entered + open_from bound m k best rest.place ≡ entered + open_from bound m k best from
   pub place : IsPlace m k rest.place
 
 module _ (value : List ℕ → ℕ) (m k best : ℕ) where
@@ -120,26 +111,47 @@ module _ (value : List ℕ → ℕ) (m k best : ℕ) where
   waits_from (Some prefix) = waits_at (waits_after 0 [] prefix.set) prefix.c prefix.set
 
   -- how many bounds a part of the walk asks for at most, whether it finds a winner or not
-  abbrev pub IsWait : Option Prefix → Counts → Option (List ℕ) → Progress → Type 0
-  IsWait from before None rest = rest.counts.ceilings + waits_from rest.place ≤ before.ceilings + waits_from from
-  IsWait from before (Some set) rest = rest.counts.ceilings ≤ before.ceilings + waits_from from
+  abbrev pub IsWait : Option Prefix → Progress → Option (List ℕ) → Progress → Type 0
+  IsWait from before None rest = rest.ceilings + waits_from rest.place ≤ before.ceilings + waits_from from
+  IsWait from before (Some set) rest = rest.ceilings ≤ before.ceilings + waits_from from
 
--- what that part adds to the counts: each prefix has a bound, and there are at most as many bounds as passed prefixes
-pub record IsRaised (m : ℕ) (from : Option Prefix) (before : Counts) (rest : Progress) : Type 0 where
-  pub entered : before.entered ≤ rest.counts.entered
-  pub asked : rest.counts.entered + before.ceilings ≤ before.entered + rest.counts.ceilings
-  pub work : rest.counts.ceilings + work_left m rest.place ≤ before.ceilings + work_left m from
+-- the same of a walk
+module _ {T : Type 0} (value : T → List ℕ → ℕ) (bound : T → ℕ → List ℕ → ℕ → ℕ) (old : Walk T) where
+  abbrev pub IsExact : Type 0
+  IsExact = IsExactAtBest (value old.tally.now) (bound old.tally.now) old.m old.k old.best
+
+  abbrev pub IsStrideFrom : Option Prefix → Option (List ℕ) → Walk T → Type 0
+  IsStrideFrom from found new = IsStride (value old.tally.now) (bound old.tally.now) old.m old.k old.best from
+      old.entered found (progress new)
+
+  abbrev pub IsWaitFrom : Option Prefix → Option (List ℕ) → Walk T → Type 0
+  IsWaitFrom from found new =
+      IsExact → IsWait (value old.tally.now) old.m old.k old.best from (progress old) found (progress new)
+
+-- whether a walk may enter a prefix
+abbrev pub opens : {T : Type 0} → (T → ℕ → List ℕ → ℕ → ℕ) → Walk T → Prefix → Bool
+opens bound walk prefix = is_open (bound walk.tally.now) walk.m walk.k walk.best prefix.c prefix.set
+
+-- no committee below the prefix reaches the walk's best value
+abbrev pub HasNone : {T : Type 0} → (T → List ℕ → ℕ) → Walk T → Prefix → Type 0
+HasNone value walk prefix =
+    those_reaching (value walk.tally.now) walk.best (committees_below walk.m walk.k prefix.c prefix.set) ≡ []
+
+-- what that part adds to the counts: they rise, and there are at most as many bounds as passed prefixes
+pub record IsRaised (m : ℕ) (from : Option Prefix) (before rest : Progress) : Type 0 where
+  pub entered : before.entered ≤ rest.entered
+  pub asked : before.ceilings ≤ rest.ceilings
+  pub work : rest.ceilings + work_left m rest.place ≤ before.ceilings + work_left m from
 
 -- What a walk has counted. The prefixes entered and those still to be entered are all live ones, and at most m others,
 -- which lie on the way to a start.
 pub record IsCounted (bound : ℕ → List ℕ → ℕ → ℕ) (m k best : ℕ) (after : Option (List ℕ)) (progress : Progress)
     : Type 0 where
-  pub all : live_count bound m k best after ≤ progress.counts.entered + open_from bound m k best progress.place
-  pub few : progress.counts.entered + open_from bound m k best progress.place ≤ live_count bound m k best after + m
+  pub all : live_count bound m k best after ≤ progress.entered + open_from bound m k best progress.place
+  pub few : progress.entered + open_from bound m k best progress.place ≤ live_count bound m k best after + m
   pub exact : after ≡ None
-      → progress.counts.entered + open_from bound m k best progress.place ≡ live_count bound m k best after
-  pub asked : progress.counts.entered ≤ progress.counts.ceilings
-  pub fits : progress.counts.ceilings + work_left m progress.place < 2 ^ 127
+      → progress.entered + open_from bound m k best progress.place ≡ live_count bound m k best after
+  pub fits : progress.ceilings + work_left m progress.place < 2 ^ 127
 
 -- the first place of a walk over the winners
 pub record IsBegun (value : List ℕ → ℕ) (bound : ℕ → List ℕ → ℕ → ℕ) (m k best : ℕ) (after : Option (List ℕ))
@@ -156,6 +168,8 @@ pub record IsWalk {T : Type 0} (candidates : T → ℕ) (walk : Walk T) : Type 0
   pub some : 1 ≤ walk.k
   pub fits : walk.k ≤ walk.m
   pub place_is : IsPlace walk.m walk.k walk.place
+  -- each prefix that was entered has a bound
+  pub asked : walk.entered ≤ walk.ceilings
 
 -- what is true of a walk over the winners after a start
 pub record IsWinning {T : Type 0} (candidates : T → ℕ) (bound : T → ℕ → List ℕ → ℕ → ℕ) (after : Option (List ℕ))

@@ -15,11 +15,11 @@ invariant-loop-self g l =
       walk : IsWalk g.T.Tally.candidates l.self;
       same : aim l.self ≡ a;
       rest : those_reaching value a.best (committees_from a.m a.k from.place) ≡ those_reaching value a.best (committees_from a.m a.k here.place);
-      entered : from.counts.entered ≤ here.counts.entered;
-      asked : here.counts.entered + from.counts.ceilings ≤ from.counts.entered + here.counts.ceilings;
-      work : here.counts.ceilings + work_left a.m here.place ≤ from.counts.ceilings + work_left a.m from.place;
-      wait : IsExactAtBest value bound a.m a.k a.best → here.counts.ceilings + waits_from value a.m a.k a.best here.place ≤ from.counts.ceilings + waits_from value a.m a.k a.best from.place;
-      count : here.counts.entered + open_from bound a.m a.k a.best here.place ≡ from.counts.entered + open_from bound a.m a.k a.best from.place;
+      entered : from.entered ≤ here.entered;
+      asked : from.ceilings ≤ here.ceilings;
+      work : here.ceilings + work_left a.m here.place ≤ from.ceilings + work_left a.m from.place;
+      wait : IsExactAtBest value bound a.m a.k a.best → here.ceilings + waits_from value a.m a.k a.best here.place ≤ from.ceilings + waits_from value a.m a.k a.best from.place;
+      count : here.entered + open_from bound a.m a.k a.best here.place ≡ from.entered + open_from bound a.m a.k a.best from.place;
     }
 
 abbrev pub decreases-loop-self : goal.decreases-loop-self

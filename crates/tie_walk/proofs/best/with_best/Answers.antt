@@ -2,8 +2,8 @@ use Rattle.std.proofs.lemmas.Grind.{common_steps}
 use Rattle.std.proofs.Common.{◌+◌, ◌≤◌, ◌∙◌, sym, subst, arith}
 use Rattle.ballot_base.proofs.Increasing.{IsIncreasing-with_member}
 use Rattle.tie_walk.proofs.BestLemmas.{IsOneMore, one-more-member, one-more-kept, one-more-found, one-more-done}
-use Rattle.tie_walk.proofs.good.with_best.Goals as goal
-use Rattle.tie_walk.proofs.good.with_best.Goals.{then-not-has+then-value-best, then-not-has+else-value-best, else-not-has}
+use Rattle.tie_walk.proofs.best.with_best.Goals as goal
+use Rattle.tie_walk.proofs.best.with_best.Goals.{then-not-has+then-value-best, then-not-has+else-value-best, else-not-has}
 
 pub value-value-requires : goal.value-value-requires
 value-value-requires g c = grind (arith, common_steps, IsIncreasing-with_member)

@@ -1,6 +1,6 @@
 use Rattle.std.proofs.Common.{◌≤◌}
 use Rattle.ballot_base.specs.Lists.{IsIncreasing}
-use Rattle.tie_walk.proofs.prefix.Prefix.past.Given as goal
+use Rattle.tie_walk.proofs.walk.Prefix.past.Given as goal
 
 -- no candidate after c is a member
 abbrev pub invariant-loop-c : goal.invariant-loop-c

@@ -1,6 +1,6 @@
 use Rattle.std.proofs.Common.{◌≡◌, length}
 use Rattle.ballot_base.specs.Lists.{IsIncreasing}
-use Rattle.tie_walk.proofs.good.grown_committee.Given as goal
+use Rattle.tie_walk.proofs.best.good_committee.Given as goal
 
 -- so many candidates so far
 abbrev pub invariant-loop-size : goal.invariant-loop-size

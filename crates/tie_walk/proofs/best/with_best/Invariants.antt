@@ -1,5 +1,5 @@
 use Rattle.tie_walk.proofs.BestLemmas.{IsOneMore}
-use Rattle.tie_walk.proofs.good.with_best.Given as goal
+use Rattle.tie_walk.proofs.best.with_best.Given as goal
 
 -- the best so far
 abbrev pub invariant-loop-n : goal.invariant-loop-n
