@@ -64,12 +64,9 @@ module _ (e : Election) (rule : SeqRule) (k : ℕ) (fits : k ≤ e.m) where
         any-from (may_be_in e.m e.rows c set left) pairs f.0 f.1 (may-is e.m e.rows c set left f.0 within up (inside f.0 f.1) ∙ any-from (λ added. has (set ++ added) f.0) lists a.0 a.1 f.2))
 
 -- the same, of what the families keep, where contracts see the election, the rule and k as one
-module _ {e : Election} {rule : SeqRule} {m k : ℕ} {clones leasts mosts : List (List ℕ)} (keeps : KeepsFamilies e rule m k clones leasts mosts) (s : Sequential) (is : sequential_of e rule k ≡ s) where
-  fits : k ≤ e.m
-  fits = omega (arith, keeps.fits, keeps.m_is)
-
+module _ {e : Election} {rule : SeqRule} {k : ℕ} {clones leasts mosts : List (List ℕ)} (keeps : KeepsFamilies e rule k clones leasts mosts) (s : Sequential) (is : sequential_of e rule k ≡ s) where
   pub never-completes : (c : ℕ) (set : List ℕ) (left : ℕ) → (length set + left ≡ k → ⊥) → some_winner s c set left ≡ false
-  never-completes c set left other = subst (λ (t : Sequential). some_winner t c set left ≡ false) is (some-other e rule k fits c set left other)
+  never-completes c set left other = subst (λ (t : Sequential). some_winner t c set left ≡ false) is (some-other e rule k keeps.fits c set left other)
 
   pub completes-is : (c : ℕ) (set : List ℕ) (left : ℕ) (least_list most_list : List (List ℕ)) → least_list ≡ leasts → most_list ≡ mosts → c ≤ s.election.m → IsIncreasing 1 c set → k ≡ length set + left
       → list_any (may_be_in s.election.m s.election.rows c set (s.k - length set)) (zip least_list most_list) ≡ some_winner s c set left
@@ -78,7 +75,7 @@ module _ {e : Election} {rule : SeqRule} {m k : ℕ} {clones leasts mosts : List
       ap (list_any (may_be_in s.election.m s.election.rows c set (s.k - length set))) (ap (λ l. zip l most_list) first ∙ ap (zip leasts) second)
       ∙ ap (λ (t : Sequential). list_any (may_be_in t.election.m t.election.rows c set (t.k - length set)) (zip leasts mosts)) (sym is)
       ∙ ap (λ n. list_any (may_be_in e.m e.rows c set n) (zip leasts mosts)) left-is
-      ∙ some-is e rule k fits leasts mosts keeps.families c set left (omega (arith, within, ap (λ (t : Sequential). t.election.m) is)) up (sym whole)
+      ∙ some-is e rule k keeps.fits leasts mosts keeps.families c set left (omega (arith, within, ap (λ (t : Sequential). t.election.m) is)) up (sym whole)
       ∙ ap {B = Bool} (λ (t : Sequential). some_winner t c set left) is
 
   -- a least set is a set of candidates

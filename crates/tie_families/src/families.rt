@@ -5,14 +5,14 @@
 //! most set has room have to fill the committee (`proofs/CompletionLemmas.antt`). This is exact (`laws::exact_bounds`):
 //! `Winners` over the families enters only prefixes with a winner below. It lists the union of the families in order,
 //! each committee once.
-ghost use Rattle.std.specs.Prelude.{◌≡◌, ◌≤◌, ◌-◌, ◌==◌, ⊤, IfOk, MatchOption, length, if◌then◌else◌};
-ghost use Rattle.std.specs.List.{list_all};
+ghost use Rattle.std.specs.Prelude.{◌≡◌, ◌≤◌, ◌-◌, ⊤, IfOk, MatchOption, length, if◌then◌else◌};
 ghost use Rattle.ballot_base.specs.Lists.{IsIncreasing};
 ghost use Rattle.tie_walk.specs.Sequences.{sequential_winners};
+ghost use Rattle.tie_families.specs.Clones.{clone_count, has_as_many};
 ghost use Rattle.tie_families.specs.Families.{sequential_of, is_winner, some_winner};
 ghost use Rattle.tie_families.specs.Steps.Families.{may_be_in};
+ghost use Rattle.tie_families.specs.Steps.Tables.{completed};
 
-use crate::clones::Classes;
 use crate::levels::Levels;
 use ballot_base::{CandSet, Clones, Profile};
 use std::alloc::{AllocError, Allocator, Global};
@@ -28,8 +28,8 @@ use tie_walk::{SeqRule, Tally};
 pub struct Families<'a, A: Allocator + Copy = Global> {
     profile: &'a Profile<A>,
     rule: SeqRule,
-    k: u8,
-    classes: Classes,
+    pub(crate) k: u8,
+    clones: Clones,
     leasts: Vec<CandSet, A>,
     mosts: Vec<CandSet, A>,
 }
@@ -42,8 +42,7 @@ impl<'a, A: Allocator + Copy> Model for Families<'a, A> {
 
     ghost view = { λ f. sequential_of f.profile.now f.rule f.k };
 
-    ghost invariant = { λ f. KeepsFamilies f.profile.now f.rule f.classes.m f.k f.classes.clones
-        f.leasts.items f.mosts.items };
+    ghost invariant = { λ f. KeepsFamilies f.profile.now f.rule f.k f.clones f.leasts.items f.mosts.items };
 }
 
 impl<'a, A: Allocator + Copy + Drop> Families<'a, A> {
@@ -78,7 +77,7 @@ impl<'a, A: Allocator + Copy + Drop> Families<'a, A> {
             profile,
             rule,
             k,
-            classes: Classes { m, clones },
+            clones,
             leasts,
             mosts,
         })
@@ -92,19 +91,12 @@ impl<'a, A: Allocator + Copy> Families<'a, A> {
         ensures { MatchOption result ⊤ (λ sets.
             sets.now ≡ sequential_winners self.now.rule self.now.election self.now.k) }
     {
-        if !self.classes.are_apart() || !all_have(&self.leasts, self.k) {
+        let (clones, k) = (&self.clones, self.k);
+        let are_apart = (1..self.m() + 1).all(|c| clones.class(c).len() == 1);
+        if !are_apart || !self.leasts.iter().all(|set| set.len() == k) {
             return None;
         }
         Some(&self.leasts)
-    }
-
-    pub(crate) fn sizes(&self) -> (u8, u8)
-        ensures m { result.0 ≡ self.now.election.m }
-        ensures k { result.1 ≡ self.now.k }
-        ensures some { 1 ≤ self.now.k }
-        ensures fits { self.now.k ≤ self.now.election.m }
-    {
-        (self.classes.m, self.k)
     }
 
     /// Whether some family has a committee that consists of `set` and of `left` candidates after `c`.
@@ -137,10 +129,54 @@ impl<'a, A: Allocator + Copy> Families<'a, A> {
         ensures { result ≡ may_be_in self.now.election.m self.now.election.rows c set (self.now.k - length set) family }
     {
         let (least, most) = family;
-        let all = self.classes.completed(c, set, least);
+        let all = self.completed(c, set, least);
         all.len() <= self.k
-            && self.classes.is_between(least, most, all)
-            && self.k <= self.classes.completed(c, set, most).len()
+            && self.has_as_many(all, least)
+            && self.has_as_many(most, all)
+            && self.k <= self.completed(c, set, most).len()
+    }
+
+    /// The set and, for each class of clones of which it has fewer members than the other set, as many of the class's
+    /// candidates after `c` as it lacks.
+    fn completed(&self, c: u8, set: CandSet, other: CandSet) -> CandSet
+        requires within { c ≤ self.now.election.m }
+        requires set { IsIncreasing 1 c set }
+        requires other { IsIncreasing 1 self.now.election.m other }
+        ensures candidates { IsIncreasing 1 self.now.election.m result }
+        ensures made { result ≡ completed c self.now.election.m self.now.election.rows set other }
+    {
+        let m = self.m();
+        let mut all = set;
+        for x in c + 1..m + 1 {
+            if self.count(all, x) < self.count(other, x) {
+                all = all.with(x);
+            }
+        }
+        all
+    }
+
+    /// Whether a set has at least as many of each class of clones as another one.
+    fn has_as_many(&self, set: CandSet, other: CandSet) -> bool
+        requires set { IsIncreasing 1 self.now.election.m set }
+        requires other { IsIncreasing 1 self.now.election.m other }
+        ensures { result ≡ has_as_many self.now.election.m self.now.election.rows set other }
+    {
+        for c in 1..self.m() + 1 {
+            if self.count(set, c) < self.count(other, c) {
+                return false;
+            }
+        }
+        true
+    }
+
+    /// How many clones of `c` a set has.
+    fn count(&self, set: CandSet, c: u8) -> u8
+        requires set { IsIncreasing 1 self.now.election.m set }
+        requires low { 1 ≤ c }
+        requires high { c ≤ self.now.election.m }
+        ensures { result ≡ clone_count self.now.election.rows set c }
+    {
+        set.common(self.clones.class(c)).len()
     }
 }
 
@@ -162,10 +198,4 @@ impl<'a, A: Allocator + Copy> Tally for Families<'a, A> {
     fn bound(&self, c: u8, set: CandSet, left: u8) -> u128 {
         u128::from(self.completes(c, set, left))
     }
-}
-
-fn all_have(sets: &[CandSet], k: u8) -> bool
-    ensures { result ≡ list_all (λ set. length set == k) sets.now }
-{
-    sets.iter().all(|set| set.len() == k)
 }

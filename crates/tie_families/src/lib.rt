@@ -2,10 +2,9 @@
 //! each class of clones.
 //!
 //! `levels` makes the families, `families` is a tally over them, and `winners` lists their committees by the walk of
-//! `tie_walk`. `clones` compares sets class by class.
+//! `tie_walk`.
 #![tactic(auto)]
 
-mod clones;
 mod families;
 pub mod laws;
 mod levels;

@@ -9,8 +9,8 @@ use crate::families::Families;
 use ballot_base::CandSet;
 use std::alloc::{Allocator, Global};
 use std::marker::Model;
-use tie_walk::Winners;
 use tie_walk::sequential::first_later;
+use tie_walk::{Tally, Winners};
 
 /// Iterates over the committees of size k that some sequence of choices makes, in lexicographic order. If candidates
 /// tie, any of them may be chosen (Lackner and Skowron, Multi-Winner Voting with Approval Preferences, sequential and
@@ -48,11 +48,10 @@ impl<'a, A: Allocator + Copy> FamilyWinners<'a, A> {
                 walk: None,
             };
         }
-        let (m, k) = families.sizes();
         FamilyWinners {
             sorted: &[],
             place: 0,
-            walk: Some(Winners::new(families, m, k, after)),
+            walk: Some(Winners::new(families, families.m(), families.k, after)),
         }
     }
 }

@@ -1,5 +1,5 @@
 -- What the families of winners keep.
-use Rattle.std.specs.Prelude.{◌≡◌, ℕ, ◌+◌, ◌≤◌, ◌&&◌, ◌==◌, Bool, List, [], Option, None, Some, length, nat_le, slice_index_or}
+use Rattle.std.specs.Prelude.{ℕ, ◌+◌, ◌≤◌, ◌&&◌, ◌==◌, Bool, List, [], Option, None, Some, length, nat_le, slice_index_or}
 use Rattle.std.specs.List.{list_all, range_with_len}
 use Rattle.ballot_base.specs.Limits.{most_candidates}
 use Rattle.ballot_base.specs.Ballots.{Row, Election}
@@ -20,11 +20,10 @@ may_be_in m rows c set left family =
     && nat_le (length set + left) (length full)
 
 -- what the families of the committees of k keep
-pub record KeepsFamilies (e : Election) (rule : SeqRule) (m k : ℕ) (clones leasts mosts : List (List ℕ)) : Type 0 where
-  pub m_is : m ≡ e.m
+pub record KeepsFamilies (e : Election) (rule : SeqRule) (k : ℕ) (clones leasts mosts : List (List ℕ)) : Type 0 where
   pub some : 1 ≤ k
-  pub most : m ≤ most_candidates
-  pub fits : k ≤ m
+  pub most : e.m ≤ most_candidates
+  pub fits : k ≤ e.m
   pub clones_are : AreClones e.m e.rows clones
   pub families : AreFamilies rule e k leasts mosts
 

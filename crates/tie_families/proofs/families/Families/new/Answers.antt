@@ -18,8 +18,8 @@ invariant_of-levels g c =
       falling = subst IsFalling (sym are) (hit_weights-fall c.args.rule m);
     }
 
-pub invariant_of-result-2 : goal.invariant_of-result-2
-invariant_of-result-2 g c =
+pub invariant_of-result : goal.invariant_of-result
+invariant_of-result g c =
     let e = c.args.profile.now in
     let rule = c.args.rule in
     let m = c.m-m.result in
@@ -32,10 +32,9 @@ invariant_of-result-2 g c =
     let all : AreFamilies rule e c.args.k (leasts_of step sets ends) (mosts_of step sets ends) =
     last-families rule e c.args.k c.choices.result step weights sets ends c.requires.fits c.m-m.ensures.valid.ballots c.step-step.ensures (c.choices.ensures ∙ ap (λ n. choices_of rule n c.args.k) c.m-m.ensures.value) are c.in_ok-sets.ensures ends-are in
     record {
-      m_is = c.m-m.ensures.value;
       some = c.requires.some;
-      most = omega (arith, c.m-m.ensures.value, c.m-m.ensures.valid.most);
-      fits = omega (arith, c.m-m.ensures.value, c.requires.fits);
+      most = c.m-m.ensures.valid.most;
+      fits = c.requires.fits;
       clones_are = c.of-clones.ensures;
       families = elim c.match-step.branch [
         | in-Grow w ↦ rw w.leasts-is (subst (λ s. AreFamilies rule e c.args.k (leasts_of s sets ends) (mosts_of s sets ends)) w.in-Grow.is all)

@@ -1,4 +1,4 @@
-use Rattle.std.proofs.Common.{◌≡◌, ◌∙◌, List, ℕ, All, ap, cond, length, subst, sym}
+use Rattle.std.proofs.Common.{◌≡◌, ◌≤◌, ◌∙◌, List, ℕ, All, ap, cond, length, subst, sym}
 use Rattle.ballot_base.specs.Lists.{AreInOrder, later_than}
 use Rattle.tie_walk.specs.Winners.{winners}
 use Rattle.tie_walk.proofs.SequenceLaws.{sequential-later, sequential-sizes}
@@ -21,7 +21,9 @@ pub returns : goal.returns
 returns g c =
     let s : Sequential = c.args.families.now in
     let value : List ℕ → ℕ = λ (w : List ℕ). cond (is_winner s w) 1 0 in
+    let f = c.families.inside in
+    let fits : s.k ≤ s.election.m = subst (λ (t : Sequential). t.k ≤ t.election.m) c.families.view_is c.families.invariant.fits in
     c.new.ensures.left
-    ∙ ap (λ n. later_than c.args.after (winners value n c.sizes-m.result.1)) c.sizes-m.ensures.m
-    ∙ ap (λ n. later_than c.args.after (winners value s.election.m n)) c.sizes-m.ensures.k
-    ∙ ap (later_than c.args.after) (winners-are s c.sizes-m.ensures.fits)
+    ∙ ap (λ n. later_than c.args.after (winners value n f.k)) c.m.ensures.value
+    ∙ ap (λ n. later_than c.args.after (winners value s.election.m n)) (ap (λ (t : Sequential). t.k) c.families.view_is)
+    ∙ ap (later_than c.args.after) (winners-are s fits)
