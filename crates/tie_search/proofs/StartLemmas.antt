@@ -195,7 +195,7 @@ module _ (m : ℕ) where
 
 -- nothing was asked yet
 pub begun-from : (value : List ℕ → ℕ) (m k : ℕ) (after : Option (List ℕ)) (asking : Asking) → 1 ≤ k → IsStart m k after → asking.branches.items ≡ first_branches m after → asking.entered ≡ 0
-    → asking.questions.asked ≡ 0 → IsBest value m k asking.questions.found → IsBegun value m k after asking
+    → asking.asked ≡ 0 → IsBest value m k asking.found → IsBegun value m k after asking
 unfolding left_by to_enter entries
 begun-from value m k None asking some start are entered asked found = record {
   asking_is = record { found_is = found; stacked = rw are (all-branch m k, refl, tt); few = omega (arith, some, ap (λ (bs : List Branch). length bs) are) };

@@ -23,9 +23,13 @@ use ballot_base::{CandSet, PLACES};
 /// The committees with the highest value that are still to come.
 #[derive(Drop)]
 pub(crate) struct Asking {
-    pub(crate) questions: Questions,
     pub(crate) branches: ArrayVec<Branch, PLACES>,
+    // The committee with the highest value that was found last.
+    pub(crate) found: CandSet,
+    // The number of sets that were entered.
     pub(crate) entered: u128,
+    // The number of searches for a winner.
+    pub(crate) asked: u128,
 }
 
 impl Asking {
@@ -39,11 +43,12 @@ impl Asking {
         ensures step { IsStep (S.value_of best.now.search) (S.candidates best.now.search) best.now.k
             self.old.branches.items self.old.entered (option_to_list result) self.new.branches.items self.new.entered }
         ensures end { result ≡ None → self.new.branches.items ≡ [] }
-        ensures asked { self.new.questions.asked
-            ≤ self.old.questions.asked + S.candidates best.now.search + length self.old.branches.items }
+        ensures asked { self.new.asked
+            ≤ self.old.asked + S.candidates best.now.search + length self.old.branches.items }
     {
         while let Some(branch) = self.branches.pop() {
-            if self.questions.reaches(best, &branch) {
+            if let Some(winner) = best.winner_of(&branch, self.found, &mut self.asked) {
+                self.found = winner;
                 return Some(self.first_of(best, branch));
             }
         }
@@ -61,118 +66,30 @@ impl Asking {
         ensures step { IsStep (S.value_of best.now.search) (S.candidates best.now.search) best.now.k
             (self.old.branches.items ++ branch ∷ []) self.old.entered (result ∷ [])
             self.new.branches.items self.new.entered }
-        ensures asked { self.new.questions.asked ≤ self.old.questions.asked + length branch.free }
+        ensures asked { self.new.asked ≤ self.old.asked + length branch.free }
     {
         let mut branch = branch;
         while branch.set.len() < best.k {
-            branch = self.below(best, branch);
-        }
-        branch.set
-    }
-
-    /// One step down, to a branch that the same first winner completes.
-    fn below<S: Searchable>(&mut self, best: &Best<S>, branch: Branch) -> Branch
-        requires knows { KnowsBest S.value_of S.class_of S.candidates best.now }
-        requires way { IsOnTheWay (S.value_of best.now.search) (S.candidates best.now.search) best.now.k self.old
-            branch }
-        requires short { length branch.set < best.now.k }
-        requires fits { self.old.entered < 2 ^ 127 }
-        ensures way { IsOnTheWay (S.value_of best.now.search) (S.candidates best.now.search) best.now.k self.new
-            result }
-        ensures step { IsStep (S.value_of best.now.search) (S.candidates best.now.search) best.now.k
-            (self.old.branches.items ++ branch ∷ []) self.old.entered []
-            (self.new.branches.items ++ result ∷ []) self.new.entered }
-        ensures fewer { length result.free < length branch.free }
-        ensures asked { self.new.questions.asked + length result.free
-            ≤ self.old.questions.asked + length branch.free }
-    {
-        let Branch { set, free } = branch;
-        let Some(parts) = free.split_first() else {
-            return Branch { set, free };
-        };
-        let (next, others) = parts;
-        let with = Branch {
-            set: set.with(next),
-            free: others,
-        };
-        if self.questions.reaches(best, &with) {
-            // No other step counts sets.
-            self.branches.push(Branch { set, free: others });
-            self.entered += 1;
-            return with;
-        }
-        let clones = best.search.clones().class(next);
-        Branch {
-            set,
-            free: others.minus(clones),
-        }
-    }
-}
-
-/// What was asked for winners.
-#[derive(Drop)]
-pub(crate) struct Questions {
-    // The committee with the highest value that was found last.
-    pub(crate) found: CandSet,
-    // The number of searches for a winner.
-    pub(crate) asked: u128,
-}
-
-impl Questions {
-    /// Whether a winner completes the branch. If one does, it becomes `found`.
-    fn reaches<S: Searchable>(&mut self, best: &Best<S>, branch: &Branch) -> bool
-        requires knows { KnowsBest S.value_of S.class_of S.candidates best.now }
-        requires branch { IsBranch (S.candidates best.now.search) best.now.k branch.now }
-        requires found { IsBest (S.value_of best.now.search) (S.candidates best.now.search) best.now.k self.old.found }
-        ensures yes { result ≡ true → IsWinnerOf (S.value_of best.now.search) (S.candidates best.now.search) best.now.k
-            branch.now self.new.found }
-        ensures no { result ≡ false
-            → IsBarren (S.value_of best.now.search) (S.candidates best.now.search) best.now.k branch.now }
-        ensures found { result ≡ false → self.new.found ≡ self.old.found }
-        ensures asked { self.new.asked ≤ self.old.asked + 1 }
-    {
-        let Some(winner) = self.winner_of(best, branch) else {
-            return false;
-        };
-        self.found = winner;
-        true
-    }
-
-    /// A winner that completes the branch. A search looks for it only if nothing cheaper decides.
-    fn winner_of<S: Searchable>(&mut self, best: &Best<S>, branch: &Branch) -> Option<CandSet>
-        requires knows { KnowsBest S.value_of S.class_of S.candidates best.now }
-        requires branch { IsBranch (S.candidates best.now.search) best.now.k branch.now }
-        requires found { IsBest (S.value_of best.now.search) (S.candidates best.now.search) best.now.k self.old.found }
-        ensures answer { IsAnswer (S.value_of best.now.search) (S.candidates best.now.search) best.now.k branch.now
-            result }
-        ensures found { self.new.found ≡ self.old.found }
-        ensures asked { self.new.asked ≤ self.old.asked + 1 }
-    {
-        if branch.set.len() + branch.free.len() < best.k {
-            return None;
-        }
-        if branch.is_completed_by(self.found) {
-            return Some(self.found);
-        }
-        let like = if best.tied.are_all {
-            best.listed(branch)?
-        } else {
-            self.found
-        };
-        if branch.is_completed_by(like) {
-            return Some(like);
-        }
-        if branch.set.len() == best.k {
-            return best.whole(branch);
-        }
-        match best.shown(like, branch) {
-            Some(winner) => Some(winner),
-            None => {
-                // No other step searches.
-                self.asked = self.asked.saturating_add(1);
-                best.find(branch)
+            let Some(parts) = branch.free.split_first() else {
+                return branch.set;
+            };
+            let (next, others) = parts;
+            branch.free = others;
+            let with = Branch {
+                set: branch.set.with(next),
+                free: others,
+            };
+            if let Some(winner) = best.winner_of(&with, self.found, &mut self.asked) {
+                self.found = winner;
+                self.branches.push(branch);
+                // No other step counts sets.
+                self.entered += 1;
+                branch = with;
+            } else {
+                branch.free = others.minus(best.search.clones().class(next));
             }
         }
+        branch.set
     }
 }
 

@@ -79,7 +79,7 @@ KnowsBest value class candidates best =
 
 -- what is true of winners that are asked for
 pub record IsAsking (value : List ℕ → ℕ) (m k : ℕ) (asking : Asking) : Type 0 where
-  pub found_is : IsBest value m k asking.questions.found
+  pub found_is : IsBest value m k asking.found
   pub stacked : AreStacked m k 0 asking.branches.items
   pub few : length asking.branches.items ≤ k
 
@@ -88,7 +88,7 @@ pub record IsOnTheWay (value : List ℕ → ℕ) (m k : ℕ) (asking : Asking) (
   pub stacked : AreStacked m k 0 asking.branches.items
   pub branch_is : IsBranch m k branch
   pub size_is : length branch.set ≡ length asking.branches.items
-  pub reached : IsWinnerOf value m k branch asking.questions.found
+  pub reached : IsWinnerOf value m k branch asking.found
 
 -- A step from a stack to another: the first winners that the one leaves are found, and the other leaves the rest. The
 -- sets that need not be entered any more were entered.
@@ -117,7 +117,7 @@ pub record IsBegun (value : List ℕ → ℕ) (m k : ℕ) (after : Option (List 
   pub counted : IsCounted value m k after asking
   pub left : left_by value m k asking.branches.items ≡ later_than after (winners value m k)
   pub entered : asking.entered ≡ 0
-  pub questions : asking.questions.asked ≡ 0
+  pub questions : asking.asked ≡ 0
 
 -- what is true of winners that are listed
 pub record IsListing {S : Type 0} (value : S → List ℕ → ℕ) (class : S → ℕ → List ℕ) (candidates : S → ℕ) (best : Best S)

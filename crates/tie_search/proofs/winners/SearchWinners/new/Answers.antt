@@ -21,7 +21,7 @@ branches-are g c = elim c.match-after.branch [
 
 -- nothing was asked yet
 asking : (g : Over) (c : After-first g) → Asking
-asking g c = record { questions = record { found = c.first.result; asked = 0 }; branches = c.match-after.branches; entered = 0 }
+asking g c = record { branches = c.match-after.branches; found = c.first.result; entered = 0; asked = 0 }
 
 is-begun : (g : Over) (c : After-first g) → IsBegun (g.S.Tally.value_of c.of-best.result.search) (g.S.Tally.candidates c.of-best.result.search) c.of-best.result.k c.match-after.after (asking g c)
 unfolding asking

@@ -45,12 +45,12 @@ returns-clause-steps g c =
       after = after;
       left = left_by value m best.k now.branches.items;
       entered = now.entered;
-      questions = now.questions.asked;
+      questions = now.asked;
     } in
     subst (λ from. IsNextAsked g.row.S.Denot g.S.Tally.value_of g.S.Tally.candidates from c.next.result to) c.self.view_is
     (record {
       first = first-of
-          (record { search = best.search; k = best.k; after = after; left = left_by value m best.k was.branches.items; entered = was.entered; questions = was.questions.asked })
+          (record { search = best.search; k = best.k; after = after; left = left_by value m best.k was.branches.items; entered = was.entered; questions = was.asked })
           c.next.result to c.next.ensures.step.left (λ none. (nothing-left value m best.k now.branches.items (c.next.ensures.end none)).0);
       same_search = refl;
       same_k = refl;
