@@ -12,7 +12,6 @@ ghost use Rattle.tie_walk.specs.Ceilings.{IsBound};
 ghost use Rattle.tie_walk.specs.Winners.{best_value};
 ghost use Rattle.tie_search.specs.Steps.Branches.{IsAnswer, IsBarren, IsBranch, IsWinnerOf, KnowsBest};
 ghost use Rattle.tie_search.specs.Tied.{IsBest};
-ghost use Rattle.tie_search.specs.Steps.Searched.{IsBetter};
 
 use crate::branch::Branch;
 use crate::found::Tied;
