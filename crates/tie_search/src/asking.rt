@@ -7,7 +7,7 @@
 //!
 //! The clones can leave as well: in a winner with one of them, the candidate could take its place
 //! (`proofs/BranchLemmas.antt`).
-ghost use Rattle.std.specs.Prelude.{◌≡◌, ◌+◌, ◌^◌, ◌<◌, ◌≤◌, ◌∷◌, ◌++◌, [], None, true, false, length, option_to_list};
+ghost use Rattle.std.specs.Prelude.{◌≡◌, ◌+◌, ◌^◌, ◌<◌, ◌≤◌, ◌∷◌, ◌++◌, [], None, true, false, length, option_to_list, MatchOption, ⊤};
 ghost use Rattle.ballot_base.specs.Limits.{most_candidates};
 ghost use Rattle.ballot_base.specs.Lists.{IsIncreasing};
 ghost use Rattle.tie_search.specs.Tied.{IsBest};
@@ -93,27 +93,21 @@ impl Asking {
     }
 }
 
-/// The branch that all committees complete.
-pub(crate) fn all_branches(m: u8) -> ArrayVec<Branch, PLACES>
-    requires { m ≤ most_candidates }
-    ensures { result.items ≡ first_branches m None }
-{
-    let mut branches = ArrayVec::new();
-    branches.push(Branch {
-        set: CandSet::empty(),
-        free: CandSet::all(m),
-    });
-    branches
-}
-
-/// The branches that exactly the committees later than the start complete.
-pub(crate) fn later_branches(start: CandSet, m: u8) -> ArrayVec<Branch, PLACES>
+/// The branches that exactly the committees later than the start complete, or all committees if there is no start.
+pub(crate) fn first_branches(after: &Option<CandSet>, m: u8) -> ArrayVec<Branch, PLACES>
     requires most { m ≤ most_candidates }
-    requires candidates { IsIncreasing 1 m start }
-    ensures { result.items ≡ branches_after m [] start }
+    requires start { MatchOption after.now ⊤ (IsIncreasing 1 m) }
+    ensures { result.items ≡ first_branches m after.now }
 {
     let mut branches = ArrayVec::new();
     let mut set = CandSet::empty();
+    let Some(start) = after else {
+        branches.push(Branch {
+            set,
+            free: CandSet::all(m),
+        });
+        return branches;
+    };
     for member in start.members() {
         branches.push(Branch {
             set,

@@ -8,7 +8,7 @@ ghost use Rattle.ballot_base.specs.Lists.{later_than};
 ghost use Rattle.tie_walk.specs.Winners.{IsStart, best_value, winners};
 ghost use Rattle.tie_search.specs.Asked.{Asked, IsNextAsked, beginnings};
 
-use crate::asking::{Asking, all_branches, later_branches};
+use crate::asking::{Asking, first_branches};
 use crate::best::Best;
 use crate::searchable::Searchable;
 use ballot_base::CandSet;
@@ -58,13 +58,9 @@ impl<S: Searchable> SearchWinners<S> {
         ensures questions { result.questions ≡ 0 }
     {
         let best = Best::of(search, k);
-        let branches = match after {
-            Some(start) => later_branches(start, best.m),
-            None => all_branches(best.m),
-        };
         SearchWinners {
             asking: Asking {
-                branches,
+                branches: first_branches(&after, best.m),
                 found: best.tied.first(),
                 entered: 0,
                 asked: 0,
