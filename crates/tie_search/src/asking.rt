@@ -10,9 +10,8 @@
 ghost use Rattle.std.specs.Prelude.{◌≡◌, ◌+◌, ◌^◌, ◌<◌, ◌≤◌, ◌∷◌, ◌++◌, [], None, true, false, length, option_to_list, MatchOption, ⊤};
 ghost use Rattle.ballot_base.specs.Limits.{most_candidates};
 ghost use Rattle.ballot_base.specs.Lists.{IsIncreasing};
-ghost use Rattle.tie_search.specs.Tied.{IsBest};
-ghost use Rattle.tie_search.specs.Steps.Branches.{IsAnswer, IsAsking, IsBarren, IsBranch, IsOnTheWay, IsStep, IsWinnerOf};
-ghost use Rattle.tie_search.specs.Steps.Branches.{KnowsBest, branches_after, first_branches, to_enter};
+ghost use Rattle.tie_search.specs.Steps.Branches.{IsAskingIn, IsOnTheWayIn, IsStepFrom, IsStepIn};
+ghost use Rattle.tie_search.specs.Steps.Branches.{KnowsBest, first_branches};
 
 use crate::best::Best;
 use crate::branch::Branch;
@@ -36,15 +35,11 @@ impl Asking {
     /// The first of the winners still to come.
     pub(crate) fn next<S: Searchable>(&mut self, best: &Best<S>) -> Option<CandSet>
         requires knows { KnowsBest S.value_of S.class_of S.candidates best.now }
-        requires asking { IsAsking (S.value_of best.now.search) (S.candidates best.now.search) best.now.k self.old }
-        requires fits { self.old.entered + to_enter (S.value_of best.now.search) (S.candidates best.now.search)
-            best.now.k self.old.branches.items < 2 ^ 127 }
-        ensures asking { IsAsking (S.value_of best.now.search) (S.candidates best.now.search) best.now.k self.new }
-        ensures step { IsStep (S.value_of best.now.search) (S.candidates best.now.search) best.now.k
-            self.old.branches.items self.old.entered (option_to_list result) self.new.branches.items self.new.entered }
+        requires asking { IsAskingIn S.value_of S.candidates best.now self.old }
+        ensures asking { IsAskingIn S.value_of S.candidates best.now self.new }
+        ensures step { IsStepIn S.value_of S.candidates best.now self.old (option_to_list result) self.new }
         ensures end { result ≡ None → self.new.branches.items ≡ [] }
-        ensures asked { self.new.asked
-            ≤ self.old.asked + S.candidates best.now.search + length self.old.branches.items }
+        ensures asked { self.new.asked ≤ self.old.asked + S.candidates best.now.search + best.now.k }
     {
         while let Some(branch) = self.branches.pop() {
             if let Some(winner) = best.winner_of(&branch, self.found, &mut self.asked) {
@@ -56,19 +51,13 @@ impl Asking {
     }
 
     /// The first winner that completes a branch. The winner that was found last must complete it.
-    fn first_of<S: Searchable>(&mut self, best: &Best<S>, branch: Branch) -> CandSet
+    fn first_of<S: Searchable>(&mut self, best: &Best<S>, mut branch: Branch) -> CandSet
         requires knows { KnowsBest S.value_of S.class_of S.candidates best.now }
-        requires way { IsOnTheWay (S.value_of best.now.search) (S.candidates best.now.search) best.now.k self.old
-            branch }
-        requires fits { self.old.entered + to_enter (S.value_of best.now.search) (S.candidates best.now.search)
-            best.now.k (self.old.branches.items ++ branch ∷ []) < 2 ^ 127 }
-        ensures asking { IsAsking (S.value_of best.now.search) (S.candidates best.now.search) best.now.k self.new }
-        ensures step { IsStep (S.value_of best.now.search) (S.candidates best.now.search) best.now.k
-            (self.old.branches.items ++ branch ∷ []) self.old.entered (result ∷ [])
-            self.new.branches.items self.new.entered }
+        requires way { IsOnTheWayIn S.value_of S.candidates best.now self.old branch }
+        ensures asking { IsAskingIn S.value_of S.candidates best.now self.new }
+        ensures step { IsStepFrom S.value_of S.candidates best.now self.old branch (result ∷ []) self.new }
         ensures asked { self.new.asked ≤ self.old.asked + length branch.free }
     {
-        let mut branch = branch;
         while branch.set.len() < best.k {
             let Some(parts) = branch.free.split_first() else {
                 return branch.set;

@@ -10,8 +10,7 @@ ghost use Rattle.ballot_base.specs.Limits.{most_candidates};
 ghost use Rattle.ballot_base.specs.Lists.{IsIncreasing};
 ghost use Rattle.tie_walk.specs.Ceilings.{IsBound};
 ghost use Rattle.tie_walk.specs.Winners.{best_value};
-ghost use Rattle.tie_search.specs.Steps.Branches.{IsAnswer, IsBarren, IsBranch, IsWinnerOf, KnowsBest};
-ghost use Rattle.tie_search.specs.Tied.{IsBest};
+ghost use Rattle.tie_search.specs.Steps.Branches.{IsAnswerIn, IsBestIn, IsBranchIn, IsGuessIn, KnowsBest};
 
 use crate::branch::Branch;
 use crate::found::Tied;
@@ -57,10 +56,9 @@ impl<S: Searchable> Best<S> {
     /// made, and `asked` counts it, only if nothing cheaper decides.
     pub(crate) fn winner_of(&self, branch: &Branch, found: CandSet, asked: &mut u128) -> Option<CandSet>
         requires knows { KnowsBest S.value_of S.class_of S.candidates self.now }
-        requires branch { IsBranch (S.candidates self.now.search) self.now.k branch.now }
-        requires found { IsBest (S.value_of self.now.search) (S.candidates self.now.search) self.now.k found }
-        ensures answer { IsAnswer (S.value_of self.now.search) (S.candidates self.now.search) self.now.k branch.now
-            result }
+        requires branch { IsBranchIn S.candidates self.now branch.now }
+        requires found { IsBestIn S.value_of S.candidates self.now found }
+        ensures answer { IsAnswerIn S.value_of S.candidates self.now branch.now result }
         ensures asked { asked.new ≤ asked.old + 1 }
     {
         if branch.set.len() + branch.free.len() < self.k {
@@ -99,11 +97,9 @@ impl<S: Searchable> Best<S> {
     /// place of members. Returns `None` only if no committee with the highest value completes the branch.
     fn listed(&self, branch: &Branch) -> Option<CandSet>
         requires knows { KnowsBest S.value_of S.class_of S.candidates self.now }
-        requires branch { IsBranch (S.candidates self.now.search) self.now.k branch.now }
+        requires branch { IsBranchIn S.candidates self.now branch.now }
         requires all { self.now.tied.are_all ≡ true }
-        ensures { MatchOption result
-            (IsBarren (S.value_of self.now.search) (S.candidates self.now.search) self.now.k branch.now)
-            (IsBest (S.value_of self.now.search) (S.candidates self.now.search) self.now.k) }
+        ensures { IsGuessIn S.value_of S.candidates self.now branch.now result }
     {
         let clones = self.search.clones();
         for i in 0..self.tied.len {

@@ -2,7 +2,7 @@ use Rattle.std.proofs.Common.{◌≡◌, ℕ, ◌+◌, ◌<◌, ◌≤◌, ◌++
 use Rattle.std.specs.Prelude.{slice_index_or}
 use Rattle.ballot_base.specs.CandSet.{other_members}
 use Rattle.tie_search.specs.Alike.{AreAlike}
-use Rattle.tie_search.specs.Steps.Branches.{IsBarren, IsOnTheWay, IsWinnerOf}
+use Rattle.tie_search.specs.Steps.Branches.{IsBarren, IsOnTheWay, IsStep, IsWinnerOf}
 use Rattle.tie_search.specs.declared.asking.Asking.{Asking}
 use Rattle.tie_search.specs.declared.branch.Branch.{Branch}
 use Rattle.tie_search.proofs.BranchLemmas.{few-barren, grown-size, joined, left-branch, left-completes, passed, with-branch, without-branch}
@@ -50,6 +50,7 @@ loop-parts-preserved-in-Some-winner_of g c =
     let rest = c.in-Some.parts.1 in
     let short : length branch.set < best.k = omega (arith, c.loop-parts-test.true, c.len.ensures.count) in
     let wins : IsWinnerOf value m best.k (joined branch next rest) c.in-Some-winner_of.winner = rw c.with.ensures at c.in-Some-winner_of.ensures.answer in
+    let step = joined-step value m best.k items branch was.entered way.branch_is short next rest c.in-Some.ensures c.in-Some-winner_of.winner wins in
     rw (c.with.ensures, c.push.ensures.items) record {
       way = record {
         stacked = stack-push value m best.k 0 items (passed branch rest) way.stacked (without-branch value m best.k branch way.branch_is short next rest c.in-Some.ensures) (omega (arith, way.size_is));
@@ -61,10 +62,10 @@ loop-parts-preserved-in-Some-winner_of g c =
           length-append items (passed branch rest ∷ []),
         );
         reached = wins;
+        fits = omega (arith, way.fits, step.counted);
       };
       step = then-step value m best.k (c.args.self.now.branches.items ++ c.args.branch ∷ []) (items ++ branch ∷ []) ((items ++ passed branch rest ∷ []) ++ joined branch next rest ∷ [])
-          c.args.self.now.entered was.entered (was.entered + 1) [] [] c.loop-parts.invariant.step
-          (joined-step value m best.k items branch was.entered way.branch_is short next rest c.in-Some.ensures c.in-Some-winner_of.winner wins);
+          c.args.self.now.entered was.entered (was.entered + 1) [] [] c.loop-parts.invariant.step step;
       asked = omega (arith, c.loop-parts.invariant.asked, c.winner_of.ensures.asked, ap length c.in-Some.ensures);
     }
 
@@ -87,6 +88,7 @@ loop-parts-preserved g c =
     let alike : AreAlike value m (λ n. slice_index_or table n []) = alike-table value m (g.S.WithClones.class_of best.search) table c.clones.ensures.table c.clones.ensures.alike in
     let none : IsBarren value m best.k (joined branch next rest) = rw c.with.ensures at c.in_default-winner_of.ensures.answer in
     let same = left-completes value m best.k branch way.branch_is short next rest c.in-Some.ensures table alike none in
+    let step = left-step value m best.k was.branches.items branch was.entered other (λ i. branch.set) (same-winners value m best.k branch other same) in
     rw (c.minus-branch.ensures ∙ ap (other_members rest) c.class.ensures) record {
       way = record {
         stacked = way.stacked;
@@ -96,25 +98,29 @@ loop-parts-preserved g c =
           best = way.reached.best;
           whole = sym (same was.found way.reached.best) ∙ way.reached.whole;
         };
+        fits = omega (arith, way.fits, step.counted);
       };
       step = then-step value m best.k (c.args.self.now.branches.items ++ c.args.branch ∷ []) (was.branches.items ++ branch ∷ []) (was.branches.items ++ other ∷ [])
-          c.args.self.now.entered was.entered was.entered [] [] c.loop-parts.invariant.step
-          (left-step value m best.k was.branches.items branch was.entered other (λ i. branch.set) (same-winners value m best.k branch other same));
+          c.args.self.now.entered was.entered was.entered [] [] c.loop-parts.invariant.step step;
       asked = omega (arith, c.loop-parts.invariant.asked, c.winner_of.ensures.asked, minus-most rest (slice_index_or table next []), ap length c.in-Some.ensures);
     }
+
+-- the set is a winner
+whole : (value : List ℕ → ℕ) (m k : ℕ) (asking : Asking) (branch : Branch) → IsOnTheWay value m k asking branch → k ≤ length branch.set
+    → IsStep value m k (asking.branches.items ++ branch ∷ []) asking.entered (branch.set ∷ []) asking.branches.items asking.entered
+whole value m k asking branch way long =
+    whole-step value m k asking.branches.items branch asking.entered asking.found way.branch_is (omega (arith, long, way.branch_is.size)) way.reached
 
 pub returns-clause-asking : goal.returns-clause-asking
 returns-clause-asking g c =
     let way = c.loop-parts.invariant.way in
-    record { found_is = way.reached.best; stacked = way.stacked; few = omega (arith, way.size_is, way.branch_is.size) }
+    let step = whole _ _ _ c.loop-parts.self c.loop-parts.branch way (omega (arith, c.loop-parts-test.false, c.len.ensures.count)) in
+    record { found_is = way.reached.best; stacked = way.stacked; few = omega (arith, way.size_is, way.branch_is.size); fits = omega (arith, way.fits, step.counted) }
 
 pub returns-clause-step : goal.returns-clause-step
 returns-clause-step g c =
-    let best = c.args.best.now in
     let asking = c.loop-parts.self in
     let branch = c.loop-parts.branch in
-    let way = c.loop-parts.invariant.way in
-    then-step _ _ best.k (c.args.self.now.branches.items ++ c.args.branch ∷ []) (asking.branches.items ++ branch ∷ []) asking.branches.items
+    then-step _ _ c.args.best.now.k (c.args.self.now.branches.items ++ c.args.branch ∷ []) (asking.branches.items ++ branch ∷ []) asking.branches.items
     c.args.self.now.entered asking.entered asking.entered [] (branch.set ∷ []) c.loop-parts.invariant.step
-    (whole-step (g.S.Tally.value_of best.search) (g.S.Tally.candidates best.search) best.k asking.branches.items branch asking.entered asking.found way.branch_is
-    (omega (arith, c.loop-parts-test.false, c.len.ensures.count, way.branch_is.size)) way.reached)
+    (whole _ _ _ asking branch c.loop-parts.invariant.way (omega (arith, c.loop-parts-test.false, c.len.ensures.count)))

@@ -25,8 +25,7 @@ first_of-requires g c =
     let parts = popped value m best.k c.loop-branch.self c.pop.new.self.items c.in-Some.branch c.loop-branch.invariant.asking c.in-Some.ensures.items in
     record {
       knows = c.requires.knows;
-      way = record { stacked = parts.0; branch_is = parts.1; size_is = omega (arith, parts.2); reached = c.in-Some-winner_of.ensures.answer };
-      fits = omega (arith, c.requires.fits, c.loop-branch.invariant.step.counted, ap (to_enter value m best.k) c.in-Some.ensures.items);
+      way = record { stacked = parts.0; branch_is = parts.1; size_is = omega (arith, parts.2); reached = c.in-Some-winner_of.ensures.answer; fits = rw c.in-Some.ensures.items at c.loop-branch.invariant.asking.fits };
     }
 
 pub returns-in-Some-winner_of-clause-step : goal.returns-in-Some-winner_of-clause-step
@@ -50,6 +49,7 @@ returns-in-Some-winner_of-clause-asked g c =
       c.first_of.ensures.asked,
       c.winner_of.ensures.asked,
       c.loop-branch.invariant.asked,
+      c.requires.asking.few,
       free-most value m best.k c.in-Some.branch parts.1,
       ap length c.in-Some.ensures.items,
       length-append c.pop.new.self.items (c.in-Some.branch ∷ []),
@@ -64,15 +64,16 @@ loop-branch-preserved g c =
     let rest = c.pop.new.self.items in
     let parts = popped value m best.k was rest c.in-Some.branch c.loop-branch.invariant.asking c.in-Some.ensures.items in
     let size = length-append rest (c.in-Some.branch ∷ []) in
+    let step = barren-step value m best.k rest c.in-Some.branch was.entered c.in_default-winner_of.ensures.answer in
     record {
       asking = record {
         found_is = c.loop-branch.invariant.asking.found_is;
         stacked = parts.0;
         few = omega (arith, c.loop-branch.invariant.asking.few, ap length c.in-Some.ensures.items, size);
+        fits = omega (arith, c.loop-branch.invariant.asking.fits, step.counted, ap (to_enter value m best.k) c.in-Some.ensures.items);
       };
       step = then-step value m best.k c.args.self.now.branches.items was.branches.items rest c.args.self.now.entered was.entered was.entered [] [] c.loop-branch.invariant.step
-          (subst (λ bs. IsStep value m best.k bs was.entered [] rest was.entered) (sym c.in-Some.ensures.items)
-          (barren-step value m best.k rest c.in-Some.branch was.entered c.in_default-winner_of.ensures.answer));
+          (subst (λ bs. IsStep value m best.k bs was.entered [] rest was.entered) (sym c.in-Some.ensures.items) step);
       asked = omega (arith, c.winner_of.ensures.asked, c.loop-branch.invariant.asked, ap length c.in-Some.ensures.items, size);
     }
 

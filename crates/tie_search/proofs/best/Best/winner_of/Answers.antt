@@ -1,5 +1,5 @@
 use Rattle.std.proofs.Common.{◌≡◌, ◌∙◌, sym, arith, inl, inr, length, true}
-use Rattle.std.proofs.lemmas.Bool.{cases_lt, le-leb, lt-leb, leb-true}
+use Rattle.std.proofs.lemmas.Bool.{cases_lt, le-leb, lt-leb}
 use Rattle.ballot_base.specs.Limits.{most_candidates}
 use Rattle.tie_search.specs.Steps.Branches.{completes}
 use Rattle.tie_search.proofs.BranchLemmas.{best-from, branch-node, completes-up, few-barren, found-answer, whole-barren, whole-winner}

@@ -28,7 +28,7 @@ unfolding asking
 is-begun g c =
     let best = c.of-best.result in
     let knows = c.of-best.ensures.knows in
-    begun-from (g.S.Tally.value_of best.search) (g.S.Tally.candidates best.search) best.k c.args.after (asking g c) knows.some
+    begun-from (g.S.Tally.value_of best.search) (g.S.Tally.candidates best.search) best.k c.args.after (asking g c) knows.some knows.fits knows.most
     (rw (c.of-best.ensures.search, c.of-best.ensures.k) c.requires.start) (c.first_branches.ensures ∙ ap (λ m. first_branches m c.args.after) knows.size) refl refl
     (knows.listed.each c.first.result c.first.ensures)
 
