@@ -42,7 +42,7 @@ impl Asking {
         ensures asked { self.new.asked ≤ self.old.asked + S.candidates best.now.search + best.now.k }
     {
         while let Some(branch) = self.branches.pop() {
-            if let Some(winner) = best.winner_of(&branch, self.found, &mut self.asked) {
+            if let Some(winner) = best.ask(&branch, self.found, &mut self.asked) {
                 self.found = winner;
                 return Some(self.first_of(best, branch));
             }
@@ -68,7 +68,7 @@ impl Asking {
                 set: branch.set.with(next),
                 free: others,
             };
-            if let Some(winner) = best.winner_of(&with, self.found, &mut self.asked) {
+            if let Some(winner) = best.ask(&with, self.found, &mut self.asked) {
                 self.found = winner;
                 self.branches.push(branch);
                 // No other step counts sets.

@@ -52,9 +52,9 @@ impl<S: Searchable> Best<S> {
         }
     }
 
-    /// A committee with the highest value that completes the branch; `found` is one with the highest value. A search is
-    /// made, and `asked` counts it, only if nothing cheaper decides.
-    pub(crate) fn winner_of(&self, branch: &Branch, found: CandSet, asked: &mut u128) -> Option<CandSet>
+    /// Asks for a committee with the highest value that completes the branch; `found` is any with this value. A search
+    /// is made, and `asked` counts it, only if nothing cheaper decides.
+    pub(crate) fn ask(&self, branch: &Branch, found: CandSet, asked: &mut u128) -> Option<CandSet>
         requires knows { KnowsBest S.value_of S.class_of S.candidates self.now }
         requires branch { IsBranchIn S.candidates self.now branch.now }
         requires found { IsBestIn S.value_of S.candidates self.now found }
@@ -79,7 +79,8 @@ impl<S: Searchable> Best<S> {
             return (self.search.value(branch.set) >= self.value).then_some(branch.set);
         }
         let made = branch.exchanged(self.search.clones(), like);
-        if made.len() == self.k && branch.is_completed_by(made) && self.search.value(made) >= self.value {
+        let completes = made.len() == self.k && branch.is_completed_by(made);
+        if completes && self.search.value(made) >= self.value {
             return Some(made);
         }
         // No other step searches.

@@ -21,8 +21,8 @@ returns-in_default-clause-asking g c = absurd (stuck _ _ _ _ _ c.loop-parts.inva
 pub returns-in_default-clause-step : goal.returns-in_default-clause-step
 returns-in_default-clause-step g c = absurd (stuck _ _ _ _ _ c.loop-parts.invariant.way (omega (arith, c.loop-parts-test.true, c.len.ensures.count)) c.in_default.ensures)
 
-pub winner_of-requires-clause-branch : goal.winner_of-requires-clause-branch
-winner_of-requires-clause-branch g c =
+pub ask-requires-clause-branch : goal.ask-requires-clause-branch
+ask-requires-clause-branch g c =
     let best = c.args.best.now in
     rw c.with.ensures
     (with-branch (g.S.Tally.value_of best.search) (g.S.Tally.candidates best.search) best.k c.loop-parts.branch c.loop-parts.invariant.way.branch_is (omega (arith, c.loop-parts-test.true, c.len.ensures.count))
@@ -34,11 +34,11 @@ push-requires g c =
     omega (arith, c.loop-parts.invariant.way.size_is, c.loop-parts-test.true, c.len.ensures.count, c.requires.knows.fits, c.requires.knows.most) in
     (omega arith, room)
 
-pub loop-parts-smaller-in-Some-winner_of : goal.loop-parts-smaller-in-Some-winner_of
-loop-parts-smaller-in-Some-winner_of g c = omega (arith, ap length c.in-Some.ensures)
+pub loop-parts-smaller-in-Some-ask : goal.loop-parts-smaller-in-Some-ask
+loop-parts-smaller-in-Some-ask g c = omega (arith, ap length c.in-Some.ensures)
 
-pub loop-parts-preserved-in-Some-winner_of : goal.loop-parts-preserved-in-Some-winner_of
-loop-parts-preserved-in-Some-winner_of g c =
+pub loop-parts-preserved-in-Some-ask : goal.loop-parts-preserved-in-Some-ask
+loop-parts-preserved-in-Some-ask g c =
     let best = c.args.best.now in
     let value = g.S.Tally.value_of best.search in
     let m = g.S.Tally.candidates best.search in
@@ -49,8 +49,8 @@ loop-parts-preserved-in-Some-winner_of g c =
     let next = c.in-Some.parts.0 in
     let rest = c.in-Some.parts.1 in
     let short : length branch.set < best.k = omega (arith, c.loop-parts-test.true, c.len.ensures.count) in
-    let wins : IsWinnerOf value m best.k (joined branch next rest) c.in-Some-winner_of.winner = rw c.with.ensures at c.in-Some-winner_of.ensures.answer in
-    let step = joined-step value m best.k items branch was.entered way.branch_is short next rest c.in-Some.ensures c.in-Some-winner_of.winner wins in
+    let wins : IsWinnerOf value m best.k (joined branch next rest) c.in-Some-ask.winner = rw c.with.ensures at c.in-Some-ask.ensures.answer in
+    let step = joined-step value m best.k items branch was.entered way.branch_is short next rest c.in-Some.ensures c.in-Some-ask.winner wins in
     rw (c.with.ensures, c.push.ensures.items) record {
       way = record {
         stacked = stack-push value m best.k 0 items (passed branch rest) way.stacked (without-branch value m best.k branch way.branch_is short next rest c.in-Some.ensures) (omega (arith, way.size_is));
@@ -66,7 +66,7 @@ loop-parts-preserved-in-Some-winner_of g c =
       };
       step = then-step value m best.k (c.args.self.now.branches.items ++ c.args.branch ∷ []) (items ++ branch ∷ []) ((items ++ passed branch rest ∷ []) ++ joined branch next rest ∷ [])
           c.args.self.now.entered was.entered (was.entered + 1) [] [] c.loop-parts.invariant.step step;
-      asked = omega (arith, c.loop-parts.invariant.asked, c.winner_of.ensures.asked, ap length c.in-Some.ensures);
+      asked = omega (arith, c.loop-parts.invariant.asked, c.ask.ensures.asked, ap length c.in-Some.ensures);
     }
 
 pub loop-parts-smaller : goal.loop-parts-smaller
@@ -86,7 +86,7 @@ loop-parts-preserved g c =
     let other = passed branch (other_members rest (slice_index_or table next [])) in
     let short : length branch.set < best.k = omega (arith, c.loop-parts-test.true, c.len.ensures.count) in
     let alike : AreAlike value m (λ n. slice_index_or table n []) = alike-table value m (g.S.WithClones.class_of best.search) table c.clones.ensures.table c.clones.ensures.alike in
-    let none : IsBarren value m best.k (joined branch next rest) = rw c.with.ensures at c.in_default-winner_of.ensures.answer in
+    let none : IsBarren value m best.k (joined branch next rest) = rw c.with.ensures at c.in_default-ask.ensures.answer in
     let same = left-completes value m best.k branch way.branch_is short next rest c.in-Some.ensures table alike none in
     let step = left-step value m best.k was.branches.items branch was.entered other (λ i. branch.set) (same-winners value m best.k branch other same) in
     rw (c.minus-branch.ensures ∙ ap (other_members rest) c.class.ensures) record {
@@ -102,7 +102,7 @@ loop-parts-preserved g c =
       };
       step = then-step value m best.k (c.args.self.now.branches.items ++ c.args.branch ∷ []) (was.branches.items ++ branch ∷ []) (was.branches.items ++ other ∷ [])
           c.args.self.now.entered was.entered was.entered [] [] c.loop-parts.invariant.step step;
-      asked = omega (arith, c.loop-parts.invariant.asked, c.winner_of.ensures.asked, minus-most rest (slice_index_or table next []), ap length c.in-Some.ensures);
+      asked = omega (arith, c.loop-parts.invariant.asked, c.ask.ensures.asked, minus-most rest (slice_index_or table next []), ap length c.in-Some.ensures);
     }
 
 -- the set is a winner

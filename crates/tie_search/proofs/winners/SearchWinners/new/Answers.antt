@@ -1,4 +1,4 @@
-use Rattle.std.proofs.Common.{◌≡◌, ℕ, List, Option, None, Some, ap, refl, ◌∙◌}
+use Rattle.std.proofs.Common.{ℕ, List, Option, None, Some, ap, refl, ◌∙◌}
 use Rattle.std.specs.Prelude.{MatchOption, ⊤}
 use Rattle.ballot_base.specs.Lists.{IsIncreasing}
 use Rattle.tie_walk.specs.Winners.{IsStart}
