@@ -44,7 +44,7 @@ impl<S: Searchable> Best<S> {
             None => Tied::one(best_committee(&search, k)),
         };
         Best {
-            value: search.value(tied.first()),
+            value: search.value(tied.committees[0]),
             search,
             m,
             k,

@@ -7,7 +7,7 @@
 ghost use Rattle.std.specs.Prelude.{◌≡◌, ℕ, ◌^◌, ◌<◌, ◌≤◌, [], List, false, true, slice_index_or, MatchOption};
 ghost use Rattle.ballot_base.specs.CandSet.{has_member};
 ghost use Rattle.tie_search.specs.Steps.Found.{Advances, AreListed, IsListed, IsSettled};
-ghost use Rattle.tie_search.specs.Tied.{IsAmong, most_tied};
+ghost use Rattle.tie_search.specs.Tied.{most_tied};
 
 use ballot_base::CandSet;
 
@@ -35,14 +35,6 @@ impl Tied {
             len: 1,
             are_all: false,
         }
-    }
-
-    /// The first of the committees.
-    pub fn first(&self) -> CandSet
-        requires some { 1 ≤ self.now.len }
-        ensures { IsAmong self.now.committees self.now.len result }
-    {
-        self.committees[0]
     }
 }
 

@@ -61,7 +61,7 @@ impl<S: Searchable> SearchWinners<S> {
         SearchWinners {
             asking: Asking {
                 branches: first_branches(&after, best.m),
-                found: best.tied.first(),
+                found: best.tied.committees[0],
                 entered: 0,
                 asked: 0,
             },
