@@ -1,5 +1,5 @@
 -- The branches after a start, and the winners that complete them.
-use Rattle.std.proofs.Common.{◌≡◌, ℕ, zero, suc, ◌+◌, ◌-◌, ◌<◌, ◌≤◌, ◌∙◌, Bool, List, [], ◌∷◌, ◌++◌, Option, None, Some, refl, sym, ap, subst, arith, inl, inr, length, length-append, append-nil, append_assoc, filter, Contains}
+use Rattle.std.proofs.Common.{◌*◌, ◌^◌, mul-le-mul, pow_mono, ◌≡◌, ℕ, zero, suc, ◌+◌, ◌-◌, ◌<◌, ◌≤◌, ◌∙◌, Bool, List, [], ◌∷◌, ◌++◌, Option, None, Some, refl, sym, ap, subst, arith, inl, inr, length, length-append, append-nil, append_assoc, filter, Contains}
 use Rattle.std.specs.List.{range_with_len}
 use Rattle.std.proofs.lemmas.Bool.{cases_eq, false≢true}
 use Rattle.std.proofs.lemmas.List.Elements.{Contains-append_cases, filter-append}
@@ -7,16 +7,17 @@ use Rattle.std.proofs.lemmas.List.Sums.{sum_by-cons}
 use Rattle.ballot_base.specs.Lists.{IsIncreasing, IsLater, is_later, later_than}
 use Rattle.ballot_base.proofs.Increasing.{IsIncreasing-lower}
 use Rattle.ballot_base.proofs.Later.{is_later-earlier}
+use Rattle.ballot_base.specs.Limits.{most_candidates}
 use Rattle.tie_walk.specs.Winners.{IsStart, winners}
 use Rattle.tie_walk.proofs.LawLemmas.{IsIncreasing-range}
 use Rattle.tie_search.specs.Asked.{beginnings}
 use Rattle.tie_search.specs.Tied.{IsBest}
-use Rattle.tie_search.specs.Steps.Branches.{AreStacked, IsBegun, IsBranch, branches_after, entries, first_branches, left_by, longer_beginnings, to_enter, winners_of}
+use Rattle.tie_search.specs.Steps.Branches.{AreStacked, IsBegun, IsBranch, IsCounted, branches_after, entries, first_branches, left_by, longer_beginnings, to_enter, winners_of}
 use Rattle.tie_search.specs.declared.asking.Asking.{Asking}
 use Rattle.tie_search.specs.declared.branch.Branch.{Branch}
 use Rattle.tie_search.proofs.BranchLemmas.{added-later, goes-on, grown-is, joined, passed, whole-is, with-begins, with-branch, without-begins, without-branch}
 use Rattle.row_bounds.proofs.CompletionLemmas.{member-low}
-use Rattle.tie_search.proofs.EnteredLemmas.{longer-all, longer-apart, longer-less}
+use Rattle.tie_search.proofs.EnteredLemmas.{beginnings-most, longer-all, longer-apart, longer-less}
 use Rattle.tie_search.proofs.StackLemmas.{all-kept, all-winners, greater-later, joined-winners, none-kept, not-later, wins-from}
 
 pub front-under : (first last : ℕ) (front rest : List ℕ) (n : ℕ) → IsIncreasing first last (front ++ n ∷ rest) → IsIncreasing first (n - 1) front × (first ≤ n) × (n ≤ last)
@@ -193,13 +194,23 @@ module _ (m : ℕ) where
                 (all.0, all.1, all.2, omega (arith, low))),
           )
 
+-- no counter wraps
+few-enough : (value : List ℕ → ℕ) (m k : ℕ) (after : Option (List ℕ)) (asking : Asking) → k ≤ m → m ≤ most_candidates → IsCounted value m k after asking
+    → asking.entered + to_enter value m k asking.branches.items < 2 ^ 127
+few-enough value m k after asking seats high counted =
+    let few : k ≤ most_candidates = omega (arith, seats, high) in
+    let power : 2 ^ m ≤ 2 ^ most_candidates = pow_mono {i = m} {j = most_candidates} high in
+    let product : k * 2 ^ m ≤ most_candidates * 2 ^ most_candidates = mul-le-mul few power in
+    let small : most_candidates * 2 ^ most_candidates < 2 ^ 127 = omega arith in
+    omega (arith, counted.most, beginnings-most m k (later_than after (winners value m k)), product, small)
+
 -- nothing was asked yet
-pub begun-from : (value : List ℕ → ℕ) (m k : ℕ) (after : Option (List ℕ)) (asking : Asking) → 1 ≤ k → IsStart m k after → asking.branches.items ≡ first_branches m after → asking.entered ≡ 0
-    → asking.questions.asked ≡ 0 → IsBest value m k asking.questions.found → IsBegun value m k after asking
+pub begun-from : (value : List ℕ → ℕ) (m k : ℕ) (after : Option (List ℕ)) (asking : Asking) → 1 ≤ k → k ≤ m → m ≤ most_candidates → IsStart m k after → asking.branches.items ≡ first_branches m after → asking.entered ≡ 0
+    → asking.asked ≡ 0 → IsBest value m k asking.found → IsBegun value m k after asking
 unfolding left_by to_enter entries
-begun-from value m k None asking some start are entered asked found = record {
-  asking_is = record { found_is = found; stacked = rw are (all-branch m k, refl, tt); few = omega (arith, some, ap (λ (bs : List Branch). length bs) are) };
-  counted = record { most = omega (arith, count); all = λ none. count };
+begun-from value m k None asking some seats high start are entered asked found = record {
+  asking_is = record { found_is = found; stacked = rw are (all-branch m k, refl, tt); few = omega (arith, some, ap (λ (bs : List Branch). length bs) are); fits = few-enough value m k None asking seats high counted };
+  counted = counted;
   left = rw are (all-winners value m k);
   entered = entered;
   questions = asked;
@@ -210,16 +221,17 @@ begun-from value m k None asking some start are entered asked found = record {
         let all : Branch = record { set = []; free = range_with_len 1 m } in
         let entry : entries value m k all ≡ beginnings m k (winners value m k) = ap (λ l. longer_beginnings m k 0 l) (all-winners value m k) ∙ longer-all m k (winners value m k) in
         omega (arith, entered, entry, ap (to_enter value m k) are)
-begun-from value m k (Some set) asking some start are entered asked found = record {
+
+    counted : IsCounted value m k None asking
+    counted = record { most = omega (arith, count); all = λ none. count }
+begun-from value m k (Some set) asking some seats high start are entered asked found = record {
   asking_is = record {
     found_is = found;
     stacked = rw are (after-stacked m k [] set start.0 start.1);
     few = omega (arith, ap (λ (bs : List Branch). length bs) are, after-length m [] set, start.1);
+    fits = few-enough value m k (Some set) asking seats high counted;
   };
-  counted = record {
-    most = omega (arith, entered, ap (to_enter value m k) are, after-most m k value [] set start.0 start.1, ap (longer_beginnings m k 0) left, longer-all m k (later_than (Some set) (winners value m k)));
-    all = λ none. absurd cc;
-  };
+  counted = counted;
   left = ap (left_by value m k) are ∙ left;
   entered = entered;
   questions = asked;
@@ -227,3 +239,9 @@ begun-from value m k (Some set) asking some start are entered asked found = reco
   where
     left : left_by value m k (branches_after m [] set) ≡ later_than (Some set) (winners value m k)
     left = after-left m k value m 1 [] set (omega arith) start.0 start.1 (all-branch m k) ∙ ap (filter (λ list. is_later list set)) (all-winners value m k)
+
+    counted : IsCounted value m k (Some set) asking
+    counted = record {
+      most = omega (arith, entered, ap (to_enter value m k) are, after-most m k value [] set start.0 start.1, ap (longer_beginnings m k 0) left, longer-all m k (later_than (Some set) (winners value m k)));
+      all = λ none. absurd cc;
+    }

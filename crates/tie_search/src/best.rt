@@ -10,9 +10,7 @@ ghost use Rattle.ballot_base.specs.Limits.{most_candidates};
 ghost use Rattle.ballot_base.specs.Lists.{IsIncreasing};
 ghost use Rattle.tie_walk.specs.Ceilings.{IsBound};
 ghost use Rattle.tie_walk.specs.Winners.{best_value};
-ghost use Rattle.tie_search.specs.Steps.Branches.{IsAnswer, IsBarren, IsBranch, IsWinnerOf, KnowsBest};
-ghost use Rattle.tie_search.specs.Tied.{IsBest};
-ghost use Rattle.tie_search.specs.Steps.Searched.{IsBetter};
+ghost use Rattle.tie_search.specs.Steps.Branches.{IsAnswerIn, IsBestIn, IsBranchIn, IsGuessIn, KnowsBest};
 
 use crate::branch::Branch;
 use crate::found::Tied;
@@ -46,7 +44,7 @@ impl<S: Searchable> Best<S> {
             None => Tied::one(best_committee(&search, k)),
         };
         Best {
-            value: search.value(tied.first()),
+            value: search.value(tied.committees[0]),
             search,
             m,
             k,
@@ -54,25 +52,55 @@ impl<S: Searchable> Best<S> {
         }
     }
 
-    /// The set of a branch that is a whole committee, if it has the highest value.
-    pub(crate) fn whole(&self, branch: &Branch) -> Option<CandSet>
+    /// Asks for a committee with the highest value that completes the branch; `found` is any with this value. A search
+    /// is made, and `asked` counts it, only if nothing cheaper decides.
+    pub(crate) fn ask(&self, branch: &Branch, found: CandSet, asked: &mut u128) -> Option<CandSet>
         requires knows { KnowsBest S.value_of S.class_of S.candidates self.now }
-        requires branch { IsBranch (S.candidates self.now.search) self.now.k branch.now }
-        requires whole { length branch.now.set ≡ self.now.k }
-        ensures { IsAnswer (S.value_of self.now.search) (S.candidates self.now.search) self.now.k branch.now result }
+        requires branch { IsBranchIn S.candidates self.now branch.now }
+        requires found { IsBestIn S.value_of S.candidates self.now found }
+        ensures answer { IsAnswerIn S.value_of S.candidates self.now branch.now result }
+        ensures asked { asked.new ≤ asked.old + 1 }
     {
-        (self.search.value(branch.set) >= self.value).then_some(branch.set)
+        if branch.set.len() + branch.free.len() < self.k {
+            return None;
+        }
+        if branch.is_completed_by(found) {
+            return Some(found);
+        }
+        let like = if self.tied.are_all {
+            self.listed(branch)?
+        } else {
+            found
+        };
+        if branch.is_completed_by(like) {
+            return Some(like);
+        }
+        if branch.set.len() == self.k {
+            return (self.search.value(branch.set) >= self.value).then_some(branch.set);
+        }
+        let made = branch.exchanged(self.search.clones(), like);
+        let completes = made.len() == self.k && branch.is_completed_by(made);
+        if completes && self.search.value(made) >= self.value {
+            return Some(made);
+        }
+        // No other step searches.
+        *asked = asked.saturating_add(1);
+        let node = Node {
+            set: branch.set,
+            value: self.search.value(branch.set),
+            free: branch.free,
+            left: self.k - branch.set.len(),
+        };
+        self.search.find(&node, self.value)
     }
 
     /// A committee of the list, which must have all. It may become one that completes the branch if clones take the
     /// place of members. Returns `None` only if no committee with the highest value completes the branch.
-    pub(crate) fn listed(&self, branch: &Branch) -> Option<CandSet>
+    fn listed(&self, branch: &Branch) -> Option<CandSet>
         requires knows { KnowsBest S.value_of S.class_of S.candidates self.now }
-        requires branch { IsBranch (S.candidates self.now.search) self.now.k branch.now }
+        requires branch { IsBranchIn S.candidates self.now branch.now }
         requires all { self.now.tied.are_all ≡ true }
-        ensures { MatchOption result
-            (IsBarren (S.value_of self.now.search) (S.candidates self.now.search) self.now.k branch.now)
-            (IsBest (S.value_of self.now.search) (S.candidates self.now.search) self.now.k) }
+        ensures { IsGuessIn S.value_of S.candidates self.now branch.now result }
     {
         let clones = self.search.clones();
         for i in 0..self.tied.len {
@@ -82,44 +110,6 @@ impl<S: Searchable> Best<S> {
             }
         }
         None
-    }
-
-    /// `found` after exchanges of clones, if it then has the highest value and completes the branch.
-    pub(crate) fn shown(&self, found: CandSet, branch: &Branch) -> Option<CandSet>
-        requires knows { KnowsBest S.value_of S.class_of S.candidates self.now }
-        requires branch { IsBranch (S.candidates self.now.search) self.now.k branch.now }
-        ensures { MatchOption result ⊤
-            (IsWinnerOf (S.value_of self.now.search) (S.candidates self.now.search) self.now.k branch.now) }
-    {
-        let alike = branch.exchanged(self.search.clones(), found);
-        self.wins(alike, branch).then_some(alike)
-    }
-
-    fn wins(&self, committee: CandSet, branch: &Branch) -> bool
-        requires knows { KnowsBest S.value_of S.class_of S.candidates self.now }
-        requires branch { IsBranch (S.candidates self.now.search) self.now.k branch.now }
-        ensures { result ≡ true
-            → IsWinnerOf (S.value_of self.now.search) (S.candidates self.now.search) self.now.k branch.now committee }
-    {
-        if committee.len() != self.k || !branch.is_completed_by(committee) {
-            return false;
-        }
-        self.search.value(committee) >= self.value
-    }
-
-    /// Searches for a committee with the highest value that completes the branch.
-    pub(crate) fn find(&self, branch: &Branch) -> Option<CandSet>
-        requires knows { KnowsBest S.value_of S.class_of S.candidates self.now }
-        requires branch { IsBranch (S.candidates self.now.search) self.now.k branch.now }
-        ensures { IsAnswer (S.value_of self.now.search) (S.candidates self.now.search) self.now.k branch.now result }
-    {
-        let node = Node {
-            set: branch.set,
-            value: self.search.value(branch.set),
-            free: branch.free,
-            left: self.k - branch.set.len(),
-        };
-        self.search.find(&node, self.value)
     }
 }
 
@@ -131,32 +121,22 @@ fn best_committee<S: Searchable>(search: &S, k: u8) -> CandSet
     ensures size { length result ≡ k }
     ensures best { S.value_of search.now result ≡ best_value (S.value_of search.now) (S.candidates search.now) k }
 {
-    let most = search.bound(0, CandSet::empty(), k);
-    // The committee that the search suggests; failing that, the first.
-    let mut best = search.good_committee(k).unwrap_or(CandSet::all(k));
-    while let Some(better) = better_than(search, best, k, most) {
-        best = better;
-    }
-    best
-}
-
-/// A committee of size `k` with a higher value, if there is one. No committee of this size is worth more than `most`.
-fn better_than<S: Searchable>(search: &S, committee: CandSet, k: u8, most: u128) -> Option<CandSet>
-    requires candidates { IsIncreasing 1 (S.candidates search.now) committee }
-    requires most { IsBound (S.value_of search.now) (S.candidates search.now) 0 [] k most }
-    ensures { MatchOption result
-        (IsBound (S.value_of search.now) (S.candidates search.now) 0 [] k (S.value_of search.now committee))
-        (IsBetter (S.value_of search.now) (S.candidates search.now) k committee) }
-{
-    let value = search.value(committee);
-    if value >= most {
-        return None;
-    }
     let all = Node {
         set: CandSet::empty(),
         value: search.value(CandSet::empty()),
         free: CandSet::all(search.m()),
         left: k,
     };
-    search.find(&all, value + 1)
+    let most = search.bound(0, CandSet::empty(), k);
+    // The committee that the search suggests; failing that, the first.
+    let mut best = search.good_committee(k).unwrap_or(CandSet::all(k));
+    let mut value = search.value(best);
+    while value < most {
+        let Some(better) = search.find(&all, value + 1) else {
+            return best;
+        };
+        best = better;
+        value = search.value(best);
+    }
+    best
 }

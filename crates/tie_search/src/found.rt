@@ -7,7 +7,7 @@
 ghost use Rattle.std.specs.Prelude.{◌≡◌, ℕ, ◌^◌, ◌<◌, ◌≤◌, [], List, false, true, slice_index_or, MatchOption};
 ghost use Rattle.ballot_base.specs.CandSet.{has_member};
 ghost use Rattle.tie_search.specs.Steps.Found.{Advances, AreListed, IsListed, IsSettled};
-ghost use Rattle.tie_search.specs.Tied.{IsAmong, most_tied};
+ghost use Rattle.tie_search.specs.Tied.{most_tied};
 
 use ballot_base::CandSet;
 
@@ -35,14 +35,6 @@ impl Tied {
             len: 1,
             are_all: false,
         }
-    }
-
-    /// The first of the committees.
-    pub fn first(&self) -> CandSet
-        requires some { 1 ≤ self.now.len }
-        ensures { IsAmong self.now.committees self.now.len result }
-    {
-        self.committees[0]
     }
 }
 
@@ -96,7 +88,13 @@ impl Found {
             return;
         }
         if self.len == 0 || value > self.value {
-            self.begin_with(committee, value);
+            self.value = value;
+            self.least = match self.wanted {
+                Wanted::One => u128::MAX,
+                Wanted::All => value,
+            };
+            self.committees[0] = committee;
+            self.len = 1;
         } else if self.len < MOST_TIED {
             self.committees[self.len] = committee;
             self.len += 1;
@@ -105,31 +103,11 @@ impl Found {
         }
     }
 
-    fn begin_with(&mut self, committee: CandSet, value: u128)
-        ensures wanted { self.new.wanted ≡ self.old.wanted }
-        ensures value { self.new.value ≡ value }
-        ensures least { value ≤ self.new.least }
-        ensures all { self.old.wanted ≡ Wanted.All → self.new.least ≡ value }
-        ensures one { self.new.len ≡ 1 }
-        ensures first { slice_index_or self.new.committees 0 [] ≡ committee }
-    {
-        self.value = value;
-        self.least = match self.wanted {
-            Wanted::One => u128::MAX,
-            Wanted::All => value,
-        };
-        self.committees[0] = committee;
-        self.len = 1;
-    }
-
     /// The committee that was listed first. Returns `None` if none is listed.
     pub fn first(&self) -> Option<CandSet>
         requires few { self.now.len ≤ most_tied }
         ensures { MatchOption result (self.now.len ≡ 0) (λ committee. IsListed self.now committee) }
     {
-        if self.len == 0 {
-            return None;
-        }
-        Some(self.committees[0])
+        (self.len > 0).then_some(self.committees[0])
     }
 }

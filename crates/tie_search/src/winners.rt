@@ -8,7 +8,7 @@ ghost use Rattle.ballot_base.specs.Lists.{later_than};
 ghost use Rattle.tie_walk.specs.Winners.{IsStart, best_value, winners};
 ghost use Rattle.tie_search.specs.Asked.{Asked, IsNextAsked, beginnings};
 
-use crate::asking::{Asking, Questions, all_branches, later_branches};
+use crate::asking::{Asking, first_branches};
 use crate::best::Best;
 use crate::searchable::Searchable;
 use ballot_base::CandSet;
@@ -36,7 +36,7 @@ impl<S: Searchable> Model for SearchWinners<S> {
       after = w.after;
       left = left_by (S.value_of w.best.search) (S.candidates w.best.search) w.best.k w.asking.branches.items;
       entered = w.asking.entered;
-      questions = w.asking.questions.asked;
+      questions = w.asking.asked;
     } };
 
     ghost invariant = { λ w. IsListing S.value_of S.class_of S.candidates w.best w.after w.asking };
@@ -58,18 +58,12 @@ impl<S: Searchable> SearchWinners<S> {
         ensures questions { result.questions ≡ 0 }
     {
         let best = Best::of(search, k);
-        let branches = match after {
-            Some(start) => later_branches(start, best.m),
-            None => all_branches(best.m),
-        };
         SearchWinners {
             asking: Asking {
-                questions: Questions {
-                    found: best.tied.first(),
-                    asked: 0,
-                },
-                branches,
+                branches: first_branches(&after, best.m),
+                found: best.tied.committees[0],
                 entered: 0,
+                asked: 0,
             },
             best,
             after,
@@ -98,7 +92,7 @@ impl<S: Searchable> SearchWinners<S> {
     pub fn questions(&self) -> u128
         ensures { result ≡ self.now.questions }
     {
-        self.asking.questions.asked
+        self.asking.asked
     }
 }
 

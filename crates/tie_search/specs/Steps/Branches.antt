@@ -1,6 +1,6 @@
 -- Branches: sets that committees may begin with, and the candidates that may still join them. A stack has the branches
 -- that the winners still to come complete.
-use Rattle.std.specs.Prelude.{◌≡◌, ℕ, ◌+◌, ◌-◌, ◌≤◌, ◌&&◌, Bool, true, List, [], ◌∷◌, ◌++◌, Option, None, Some, ⊤, length, filter, sum_by, MatchOption}
+use Rattle.std.specs.Prelude.{◌≡◌, ℕ, ◌+◌, ◌-◌, ◌^◌, ◌<◌, ◌≤◌, ◌&&◌, Bool, true, List, [], ◌∷◌, ◌++◌, Option, None, Some, ⊤, length, filter, sum_by, MatchOption}
 use Rattle.std.specs.List.{range_with_len}
 use Rattle.ballot_base.specs.CandSet.{either_members, includes}
 use Rattle.ballot_base.specs.Lists.{IsIncreasing, increasing_lists, later_than}
@@ -72,6 +72,10 @@ IsBarren value m k branch = (committee : List ℕ) → IsWinnerOf value m k bran
 abbrev pub IsAnswer : (List ℕ → ℕ) → ℕ → ℕ → Branch → Option (List ℕ) → Type 0
 IsAnswer value m k branch answer = MatchOption answer (IsBarren value m k branch) (IsWinnerOf value m k branch)
 
+-- a committee with the highest value, or no such committee completes the branch
+abbrev pub IsGuess : (List ℕ → ℕ) → ℕ → ℕ → Branch → Option (List ℕ) → Type 0
+IsGuess value m k branch guess = MatchOption guess (IsBarren value m k branch) (IsBest value m k)
+
 -- what is known of the committees of k with the highest value is true
 abbrev pub KnowsBest : {S : Type 0} → (S → List ℕ → ℕ) → (S → ℕ → List ℕ) → (S → ℕ) → Best S → Type 0
 KnowsBest value class candidates best =
@@ -79,16 +83,18 @@ KnowsBest value class candidates best =
 
 -- what is true of winners that are asked for
 pub record IsAsking (value : List ℕ → ℕ) (m k : ℕ) (asking : Asking) : Type 0 where
-  pub found_is : IsBest value m k asking.questions.found
+  pub found_is : IsBest value m k asking.found
   pub stacked : AreStacked m k 0 asking.branches.items
   pub few : length asking.branches.items ≤ k
+  pub fits : asking.entered + to_enter value m k asking.branches.items < 2 ^ 127
 
 -- what is true on the way down from a branch to the first winner that completes it
 pub record IsOnTheWay (value : List ℕ → ℕ) (m k : ℕ) (asking : Asking) (branch : Branch) : Type 0 where
   pub stacked : AreStacked m k 0 asking.branches.items
   pub branch_is : IsBranch m k branch
   pub size_is : length branch.set ≡ length asking.branches.items
-  pub reached : IsWinnerOf value m k branch asking.questions.found
+  pub reached : IsWinnerOf value m k branch asking.found
+  pub fits : asking.entered + to_enter value m k (asking.branches.items ++ branch ∷ []) < 2 ^ 127
 
 -- A step from a stack to another: the first winners that the one leaves are found, and the other leaves the rest. The
 -- sets that need not be entered any more were entered.
@@ -97,6 +103,41 @@ pub record IsStep (value : List ℕ → ℕ) (m k : ℕ) (before : List Branch) 
   pub left : left_by value m k before ≡ found ++ left_by value m k after
   pub rises : entered ≤ entered'
   pub counted : entered' + to_enter value m k after ≡ entered + to_enter value m k before
+
+-- ---- the same in what is searched, as contracts say it: `value` and `candidates` are those of the search
+
+abbrev pub IsBranchIn : {S : Type 0} → (S → ℕ) → Best S → Branch → Type 0
+IsBranchIn candidates best = IsBranch (candidates best.search) best.k
+
+abbrev pub IsBestIn : {S : Type 0} → (S → List ℕ → ℕ) → (S → ℕ) → Best S → List ℕ → Type 0
+IsBestIn value candidates best = IsBest (value best.search) (candidates best.search) best.k
+
+abbrev pub IsGuessIn : {S : Type 0} → (S → List ℕ → ℕ) → (S → ℕ) → Best S → Branch → Option (List ℕ) → Type 0
+IsGuessIn value candidates best = IsGuess (value best.search) (candidates best.search) best.k
+
+abbrev pub IsAnswerIn : {S : Type 0} → (S → List ℕ → ℕ) → (S → ℕ) → Best S → Branch → Option (List ℕ) → Type 0
+IsAnswerIn value candidates best = IsAnswer (value best.search) (candidates best.search) best.k
+
+abbrev pub IsAskingIn : {S : Type 0} → (S → List ℕ → ℕ) → (S → ℕ) → Best S → Asking → Type 0
+IsAskingIn value candidates best = IsAsking (value best.search) (candidates best.search) best.k
+
+abbrev pub IsOnTheWayIn : {S : Type 0} → (S → List ℕ → ℕ) → (S → ℕ) → Best S → Asking → Branch → Type 0
+IsOnTheWayIn value candidates best = IsOnTheWay (value best.search) (candidates best.search) best.k
+
+-- a step from all branches
+abbrev pub IsStepIn : {S : Type 0} → (S → List ℕ → ℕ) → (S → ℕ) → Best S → Asking → List (List ℕ) → Asking → Type 0
+IsStepIn value candidates best before found after =
+    IsStep (value best.search) (candidates best.search) best.k before.branches.items before.entered found
+    after.branches.items after.entered
+
+-- a step from all branches and one more
+abbrev pub IsStepFrom : {S : Type 0} → (S → List ℕ → ℕ) → (S → ℕ) → Best S → Asking → Branch → List (List ℕ)
+    → Asking → Type 0
+IsStepFrom value candidates best before branch found after =
+    IsStep (value best.search) (candidates best.search) best.k (before.branches.items ++ branch ∷ []) before.entered
+    found after.branches.items after.entered
+
+-- ---- the start
 
 -- the first branches after a start
 abbrev pub first_branches : ℕ → Option (List ℕ) → List Branch
@@ -117,7 +158,7 @@ pub record IsBegun (value : List ℕ → ℕ) (m k : ℕ) (after : Option (List 
   pub counted : IsCounted value m k after asking
   pub left : left_by value m k asking.branches.items ≡ later_than after (winners value m k)
   pub entered : asking.entered ≡ 0
-  pub questions : asking.questions.asked ≡ 0
+  pub questions : asking.asked ≡ 0
 
 -- what is true of winners that are listed
 pub record IsListing {S : Type 0} (value : S → List ℕ → ℕ) (class : S → ℕ → List ℕ) (candidates : S → ℕ) (best : Best S)

@@ -1,7 +1,6 @@
 -- What a tally by search keeps.
-use Rattle.std.specs.Prelude.{◌≡◌, ℕ, ◌<◌, ◌≤◌, List, length}
+use Rattle.std.specs.Prelude.{◌≡◌, ℕ, ◌≤◌, List}
 use Rattle.ballot_base.specs.Limits.{most_candidates}
-use Rattle.ballot_base.specs.Lists.{IsIncreasing}
 use Rattle.tie_walk.specs.Winners.{best_value}
 use Rattle.tie_search.specs.declared.found.Tied.{Tied}
 use Rattle.tie_search.specs.Tied.{AreBest}
@@ -15,9 +14,3 @@ pub record IsSearched (value : List ℕ → ℕ) (class : ℕ → List ℕ) (can
   pub fits : k ≤ candidates
   pub best_is : best ≡ best_value value candidates k
   pub listed : AreBest value class candidates k tied
-
--- a committee of k of the candidates 1 to m with a higher value
-pub record IsBetter (value : List ℕ → ℕ) (m k : ℕ) (committee better : List ℕ) : Type 0 where
-  pub candidates : IsIncreasing 1 m better
-  pub size : length better ≡ k
-  pub more : value committee < value better

@@ -1,22 +1,126 @@
-use Rattle.std.proofs.Common.{◌++◌, ◌∷◌, [], arith}
-use Rattle.tie_search.proofs.EnteredLemmas.{whole-step}
-use Rattle.tie_search.proofs.StackLemmas.{then-step}
+use Rattle.std.proofs.Common.{◌≡◌, ℕ, ◌+◌, ◌<◌, ◌≤◌, ◌++◌, ◌∷◌, [], List, ap, arith, sym, ◌∙◌, length, length-append}
+use Rattle.std.specs.Prelude.{slice_index_or}
+use Rattle.ballot_base.specs.CandSet.{other_members}
+use Rattle.tie_search.specs.Alike.{AreAlike}
+use Rattle.tie_search.specs.Steps.Branches.{IsBarren, IsOnTheWay, IsStep, IsWinnerOf}
+use Rattle.tie_search.specs.declared.asking.Asking.{Asking}
+use Rattle.tie_search.specs.declared.branch.Branch.{Branch}
+use Rattle.tie_search.proofs.BranchLemmas.{few-barren, grown-size, joined, left-branch, left-completes, passed, with-branch, without-branch}
+use Rattle.tie_search.proofs.CloneLemmas.{alike-table, minus-most}
+use Rattle.tie_search.proofs.EnteredLemmas.{joined-step, left-step, whole-step}
+use Rattle.tie_search.proofs.StackLemmas.{same-winners, stack-push, then-step}
 use Rattle.tie_search.proofs.asking.Asking.first_of.Goals as goal
+
+-- a winner goes on with a free candidate
+stuck : (value : List ℕ → ℕ) (m k : ℕ) (asking : Asking) (branch : Branch) → IsOnTheWay value m k asking branch → length branch.set < k → branch.free ≡ [] → ⊥
+stuck value m k asking branch way short none = few-barren value m k branch way.branch_is (omega (arith, short, ap length none)) asking.found way.reached
+
+pub returns-in_default-clause-asking : goal.returns-in_default-clause-asking
+returns-in_default-clause-asking g c = absurd (stuck _ _ _ _ _ c.loop-parts.invariant.way (omega (arith, c.loop-parts-test.true, c.len.ensures.count)) c.in_default.ensures)
+
+pub returns-in_default-clause-step : goal.returns-in_default-clause-step
+returns-in_default-clause-step g c = absurd (stuck _ _ _ _ _ c.loop-parts.invariant.way (omega (arith, c.loop-parts-test.true, c.len.ensures.count)) c.in_default.ensures)
+
+pub ask-requires-clause-branch : goal.ask-requires-clause-branch
+ask-requires-clause-branch g c =
+    let best = c.args.best.now in
+    rw c.with.ensures
+    (with-branch (g.S.Tally.value_of best.search) (g.S.Tally.candidates best.search) best.k c.loop-parts.branch c.loop-parts.invariant.way.branch_is (omega (arith, c.loop-parts-test.true, c.len.ensures.count))
+    c.in-Some.parts.0 c.in-Some.parts.1 c.in-Some.ensures)
+
+pub push-requires : goal.push-requires
+push-requires g c =
+    let room : length c.loop-parts.self.branches.items < 65 =
+    omega (arith, c.loop-parts.invariant.way.size_is, c.loop-parts-test.true, c.len.ensures.count, c.requires.knows.fits, c.requires.knows.most) in
+    (omega arith, room)
+
+pub loop-parts-smaller-in-Some-ask : goal.loop-parts-smaller-in-Some-ask
+loop-parts-smaller-in-Some-ask g c = omega (arith, ap length c.in-Some.ensures)
+
+pub loop-parts-preserved-in-Some-ask : goal.loop-parts-preserved-in-Some-ask
+loop-parts-preserved-in-Some-ask g c =
+    let best = c.args.best.now in
+    let value = g.S.Tally.value_of best.search in
+    let m = g.S.Tally.candidates best.search in
+    let branch = c.loop-parts.branch in
+    let was = c.loop-parts.self in
+    let items = was.branches.items in
+    let way = c.loop-parts.invariant.way in
+    let next = c.in-Some.parts.0 in
+    let rest = c.in-Some.parts.1 in
+    let short : length branch.set < best.k = omega (arith, c.loop-parts-test.true, c.len.ensures.count) in
+    let wins : IsWinnerOf value m best.k (joined branch next rest) c.in-Some-ask.winner = rw c.with.ensures at c.in-Some-ask.ensures.answer in
+    let step = joined-step value m best.k items branch was.entered way.branch_is short next rest c.in-Some.ensures c.in-Some-ask.winner wins in
+    rw (c.with.ensures, c.push.ensures.items) record {
+      way = record {
+        stacked = stack-push value m best.k 0 items (passed branch rest) way.stacked (without-branch value m best.k branch way.branch_is short next rest c.in-Some.ensures) (omega (arith, way.size_is));
+        branch_is = with-branch value m best.k branch way.branch_is short next rest c.in-Some.ensures;
+        size_is = omega (
+          arith,
+          grown-size value m best.k branch way.branch_is short next rest c.in-Some.ensures,
+          way.size_is,
+          length-append items (passed branch rest ∷ []),
+        );
+        reached = wins;
+        fits = omega (arith, way.fits, step.counted);
+      };
+      step = then-step value m best.k (c.args.self.now.branches.items ++ c.args.branch ∷ []) (items ++ branch ∷ []) ((items ++ passed branch rest ∷ []) ++ joined branch next rest ∷ [])
+          c.args.self.now.entered was.entered (was.entered + 1) [] [] c.loop-parts.invariant.step step;
+      asked = omega (arith, c.loop-parts.invariant.asked, c.ask.ensures.asked, ap length c.in-Some.ensures);
+    }
+
+pub loop-parts-smaller : goal.loop-parts-smaller
+loop-parts-smaller g c = omega (arith, ap length c.minus-branch.ensures, minus-most c.in-Some.parts.1 c.class.result, ap length c.in-Some.ensures)
+
+pub loop-parts-preserved : goal.loop-parts-preserved
+loop-parts-preserved g c =
+    let best = c.args.best.now in
+    let value = g.S.Tally.value_of best.search in
+    let m = g.S.Tally.candidates best.search in
+    let branch = c.loop-parts.branch in
+    let was = c.loop-parts.self in
+    let way = c.loop-parts.invariant.way in
+    let next = c.in-Some.parts.0 in
+    let rest = c.in-Some.parts.1 in
+    let table = c.clones.result.now in
+    let other = passed branch (other_members rest (slice_index_or table next [])) in
+    let short : length branch.set < best.k = omega (arith, c.loop-parts-test.true, c.len.ensures.count) in
+    let alike : AreAlike value m (λ n. slice_index_or table n []) = alike-table value m (g.S.WithClones.class_of best.search) table c.clones.ensures.table c.clones.ensures.alike in
+    let none : IsBarren value m best.k (joined branch next rest) = rw c.with.ensures at c.in_default-ask.ensures.answer in
+    let same = left-completes value m best.k branch way.branch_is short next rest c.in-Some.ensures table alike none in
+    let step = left-step value m best.k was.branches.items branch was.entered other (λ i. branch.set) (same-winners value m best.k branch other same) in
+    rw (c.minus-branch.ensures ∙ ap (other_members rest) c.class.ensures) record {
+      way = record {
+        stacked = way.stacked;
+        branch_is = left-branch value m best.k branch way.branch_is short next rest c.in-Some.ensures table alike none;
+        size_is = way.size_is;
+        reached = record {
+          best = way.reached.best;
+          whole = sym (same was.found way.reached.best) ∙ way.reached.whole;
+        };
+        fits = omega (arith, way.fits, step.counted);
+      };
+      step = then-step value m best.k (c.args.self.now.branches.items ++ c.args.branch ∷ []) (was.branches.items ++ branch ∷ []) (was.branches.items ++ other ∷ [])
+          c.args.self.now.entered was.entered was.entered [] [] c.loop-parts.invariant.step step;
+      asked = omega (arith, c.loop-parts.invariant.asked, c.ask.ensures.asked, minus-most rest (slice_index_or table next []), ap length c.in-Some.ensures);
+    }
+
+-- the set is a winner
+whole : (value : List ℕ → ℕ) (m k : ℕ) (asking : Asking) (branch : Branch) → IsOnTheWay value m k asking branch → k ≤ length branch.set
+    → IsStep value m k (asking.branches.items ++ branch ∷ []) asking.entered (branch.set ∷ []) asking.branches.items asking.entered
+whole value m k asking branch way long =
+    whole-step value m k asking.branches.items branch asking.entered asking.found way.branch_is (omega (arith, long, way.branch_is.size)) way.reached
 
 pub returns-clause-asking : goal.returns-clause-asking
 returns-clause-asking g c =
-    let way = c.loop-self.invariant.way in
-    record { found_is = way.reached.best; stacked = way.stacked; few = omega (arith, way.size_is, way.branch_is.size) }
+    let way = c.loop-parts.invariant.way in
+    let step = whole _ _ _ c.loop-parts.self c.loop-parts.branch way (omega (arith, c.loop-parts-test.false, c.len.ensures.count)) in
+    record { found_is = way.reached.best; stacked = way.stacked; few = omega (arith, way.size_is, way.branch_is.size); fits = omega (arith, way.fits, step.counted) }
 
 pub returns-clause-step : goal.returns-clause-step
 returns-clause-step g c =
-    let best = c.args.best.now in
-    let asking = c.loop-self.self in
-    let branch = c.loop-self.branch in
-    let way = c.loop-self.invariant.way in
-    let value = g.S.Tally.value_of best.search in
-    let m = g.S.Tally.candidates best.search in
-    then-step value m best.k (c.args.self.now.branches.items ++ c.args.branch ∷ []) (asking.branches.items ++ branch ∷ []) asking.branches.items
-    c.args.self.now.entered asking.entered asking.entered [] (branch.set ∷ []) c.loop-self.invariant.step
-    (whole-step value m best.k asking.branches.items branch asking.entered asking.questions.found way.branch_is
-    (omega (arith, c.loop-self-test.false, c.len.ensures.count, way.branch_is.size)) way.reached)
+    let asking = c.loop-parts.self in
+    let branch = c.loop-parts.branch in
+    then-step _ _ c.args.best.now.k (c.args.self.now.branches.items ++ c.args.branch ∷ []) (asking.branches.items ++ branch ∷ []) asking.branches.items
+    c.args.self.now.entered asking.entered asking.entered [] (branch.set ∷ []) c.loop-parts.invariant.step
+    (whole _ _ _ asking branch c.loop-parts.invariant.way (omega (arith, c.loop-parts-test.false, c.len.ensures.count)))

@@ -2,15 +2,15 @@ use Rattle.std.proofs.Common.{◌+◌, ◌≤◌, ◌∷◌, ◌++◌, [], lengt
 use Rattle.tie_search.specs.Steps.Branches.{IsOnTheWay, IsStep}
 use Rattle.tie_search.proofs.asking.Asking.first_of.Given as goal
 
-abbrev pub invariant-loop-self : goal.invariant-loop-self
-invariant-loop-self g l =
+abbrev pub invariant-loop-parts : goal.invariant-loop-parts
+invariant-loop-parts g l =
     let value = g.S.Tally.value_of l.best.search in
     let m = g.S.Tally.candidates l.best.search in
     record {
       way : IsOnTheWay value m l.best.k l.self l.branch;
       step : IsStep value m l.best.k (l.fn.self.branches.items ++ l.fn.branch ∷ []) l.fn.self.entered [] (l.self.branches.items ++ l.branch ∷ []) l.self.entered;
-      asked : l.self.questions.asked + length l.branch.free ≤ l.fn.self.questions.asked + length l.fn.branch.free;
+      asked : l.self.asked + length l.branch.free ≤ l.fn.self.asked + length l.fn.branch.free;
     }
 
-abbrev pub decreases-loop-self : goal.decreases-loop-self
-decreases-loop-self g l = length l.branch.free
+abbrev pub decreases-loop-parts : goal.decreases-loop-parts
+decreases-loop-parts g l = length l.branch.free

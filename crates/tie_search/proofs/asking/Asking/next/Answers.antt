@@ -12,8 +12,8 @@ popped : (value : List ℕ → ℕ) (m k : ℕ) (asking : Asking) (branches : Li
     → AreStacked m k 0 branches × IsBranch m k branch × (length branch.set ≡ 0 + length branches)
 popped value m k asking branches branch is are = stack-pop value m k 0 branches branch (subst (AreStacked m k 0) are is.stacked)
 
-pub reaches-requires-clause-branch : goal.reaches-requires-clause-branch
-reaches-requires-clause-branch g c =
+pub ask-requires-clause-branch : goal.ask-requires-clause-branch
+ask-requires-clause-branch g c =
     let best = c.args.best.now in
     (popped (g.S.Tally.value_of best.search) (g.S.Tally.candidates best.search) best.k c.loop-branch.self c.pop.new.self.items c.in-Some.branch c.loop-branch.invariant.asking c.in-Some.ensures.items).1
 
@@ -25,12 +25,11 @@ first_of-requires g c =
     let parts = popped value m best.k c.loop-branch.self c.pop.new.self.items c.in-Some.branch c.loop-branch.invariant.asking c.in-Some.ensures.items in
     record {
       knows = c.requires.knows;
-      way = record { stacked = parts.0; branch_is = parts.1; size_is = omega (arith, parts.2); reached = c.reaches.ensures.yes c.if-reaches.true };
-      fits = omega (arith, c.requires.fits, c.loop-branch.invariant.step.counted, ap (to_enter value m best.k) c.in-Some.ensures.items);
+      way = record { stacked = parts.0; branch_is = parts.1; size_is = omega (arith, parts.2); reached = c.in-Some-ask.ensures.answer; fits = rw c.in-Some.ensures.items at c.loop-branch.invariant.asking.fits };
     }
 
-pub returns-then-reaches-clause-step : goal.returns-then-reaches-clause-step
-returns-then-reaches-clause-step g c =
+pub returns-in-Some-ask-clause-step : goal.returns-in-Some-ask-clause-step
+returns-in-Some-ask-clause-step g c =
     let best = c.args.best.now in
     let value = g.S.Tally.value_of best.search in
     let m = g.S.Tally.candidates best.search in
@@ -39,8 +38,8 @@ returns-then-reaches-clause-step g c =
     [] (c.first_of.result ∷ []) c.loop-branch.invariant.step
     (subst (λ bs. IsStep value m best.k bs c.loop-branch.self.entered (c.first_of.result ∷ []) to.branches.items to.entered) (sym c.in-Some.ensures.items) c.first_of.ensures.step)
 
-pub returns-then-reaches-clause-asked : goal.returns-then-reaches-clause-asked
-returns-then-reaches-clause-asked g c =
+pub returns-in-Some-ask-clause-asked : goal.returns-in-Some-ask-clause-asked
+returns-in-Some-ask-clause-asked g c =
     let best = c.args.best.now in
     let value = g.S.Tally.value_of best.search in
     let m = g.S.Tally.candidates best.search in
@@ -48,8 +47,9 @@ returns-then-reaches-clause-asked g c =
     omega (
       arith,
       c.first_of.ensures.asked,
-      c.reaches.ensures.asked,
+      c.ask.ensures.asked,
       c.loop-branch.invariant.asked,
+      c.requires.asking.few,
       free-most value m best.k c.in-Some.branch parts.1,
       ap length c.in-Some.ensures.items,
       length-append c.pop.new.self.items (c.in-Some.branch ∷ []),
@@ -64,16 +64,17 @@ loop-branch-preserved g c =
     let rest = c.pop.new.self.items in
     let parts = popped value m best.k was rest c.in-Some.branch c.loop-branch.invariant.asking c.in-Some.ensures.items in
     let size = length-append rest (c.in-Some.branch ∷ []) in
+    let step = barren-step value m best.k rest c.in-Some.branch was.entered c.in_default-ask.ensures.answer in
     record {
       asking = record {
-        found_is = rw (c.reaches.ensures.found c.if-reaches.false) c.loop-branch.invariant.asking.found_is;
+        found_is = c.loop-branch.invariant.asking.found_is;
         stacked = parts.0;
         few = omega (arith, c.loop-branch.invariant.asking.few, ap length c.in-Some.ensures.items, size);
+        fits = omega (arith, c.loop-branch.invariant.asking.fits, step.counted, ap (to_enter value m best.k) c.in-Some.ensures.items);
       };
       step = then-step value m best.k c.args.self.now.branches.items was.branches.items rest c.args.self.now.entered was.entered was.entered [] [] c.loop-branch.invariant.step
-          (subst (λ bs. IsStep value m best.k bs was.entered [] rest was.entered) (sym c.in-Some.ensures.items)
-          (barren-step value m best.k rest c.in-Some.branch was.entered (c.reaches.ensures.no c.if-reaches.false)));
-      asked = omega (arith, c.reaches.ensures.asked, c.loop-branch.invariant.asked, ap length c.in-Some.ensures.items, size);
+          (subst (λ bs. IsStep value m best.k bs was.entered [] rest was.entered) (sym c.in-Some.ensures.items) step);
+      asked = omega (arith, c.ask.ensures.asked, c.loop-branch.invariant.asked, ap length c.in-Some.ensures.items, size);
     }
 
 pub returns-clause-step : goal.returns-clause-step

@@ -9,7 +9,7 @@ invariant-loop-branch g l =
     record {
       asking : IsAsking value m l.best.k l.self;
       step : IsStep value m l.best.k l.fn.self.branches.items l.fn.self.entered [] l.self.branches.items l.self.entered;
-      asked : l.self.questions.asked + length l.self.branches.items ≤ l.fn.self.questions.asked + length l.fn.self.branches.items;
+      asked : l.self.asked + length l.self.branches.items ≤ l.fn.self.asked + length l.fn.self.branches.items;
     }
 
 abbrev pub decreases-loop-branch : goal.decreases-loop-branch

@@ -1,13 +1,8 @@
-use Rattle.std.proofs.Common.{◌≡◌, ℕ, ◌+◌, ◌*◌, ◌^◌, ◌<◌, ◌≤◌, List, [], ◌++◌, Option, None, Some, arith, mul-le-mul, option_to_list, pow_mono, refl, subst, ◌∙◌}
+use Rattle.std.proofs.Common.{◌≡◌, ℕ, List, [], ◌++◌, Option, None, Some, arith, option_to_list, refl, subst, ◌∙◌}
 use Rattle.std.specs.Iterator.{YieldsFirst}
-use Rattle.ballot_base.specs.Limits.{most_candidates}
-use Rattle.ballot_base.specs.Lists.{later_than}
-use Rattle.tie_walk.specs.Winners.{winners}
 use Rattle.tie_search.specs.Asked.{Asked, IsNextAsked}
-use Rattle.tie_search.specs.Steps.Branches.{IsCounted, left_by, to_enter}
-use Rattle.tie_search.specs.declared.asking.Asking.{Asking}
+use Rattle.tie_search.specs.Steps.Branches.{left_by, to_enter}
 use Rattle.tie_search.specs.declared.branch.Branch.{Branch}
-use Rattle.tie_search.proofs.EnteredLemmas.{beginnings-most}
 use Rattle.tie_search.proofs.winners.SearchWinnersIterator.next.Goals as goal
 
 -- the first of two lists, or none where both are empty
@@ -20,16 +15,6 @@ first-of from (Some set) to is end = is
 nothing-left : (value : List ℕ → ℕ) (m k : ℕ) (branches : List Branch) → branches ≡ [] → (left_by value m k branches ≡ []) × (to_enter value m k branches ≡ 0)
 unfolding left_by to_enter
 nothing-left value m k branches none = rw none (refl, refl)
-
--- no counter wraps
-few-enough : (value : List ℕ → ℕ) (m k : ℕ) (after : Option (List ℕ)) (asking : Asking) → k ≤ m → m ≤ most_candidates → IsCounted value m k after asking
-    → asking.entered + to_enter value m k asking.branches.items < 2 ^ 127
-few-enough value m k after asking seats high counted =
-    let few : k ≤ most_candidates = omega (arith, seats, high) in
-    let power : 2 ^ m ≤ 2 ^ most_candidates = pow_mono {i = m} {j = most_candidates} high in
-    let product : k * 2 ^ m ≤ most_candidates * 2 ^ most_candidates = mul-le-mul few power in
-    let small : most_candidates * 2 ^ most_candidates < 2 ^ 127 = omega arith in
-    omega (arith, counted.most, beginnings-most m k (later_than after (winners value m k)), product, small)
 
 pub returns-clause-steps : goal.returns-clause-steps
 returns-clause-steps g c =
@@ -45,12 +30,12 @@ returns-clause-steps g c =
       after = after;
       left = left_by value m best.k now.branches.items;
       entered = now.entered;
-      questions = now.questions.asked;
+      questions = now.asked;
     } in
     subst (λ from. IsNextAsked g.row.S.Denot g.S.Tally.value_of g.S.Tally.candidates from c.next.result to) c.self.view_is
     (record {
       first = first-of
-          (record { search = best.search; k = best.k; after = after; left = left_by value m best.k was.branches.items; entered = was.entered; questions = was.questions.asked })
+          (record { search = best.search; k = best.k; after = after; left = left_by value m best.k was.branches.items; entered = was.entered; questions = was.asked })
           c.next.result to c.next.ensures.step.left (λ none. (nothing-left value m best.k now.branches.items (c.next.ensures.end none)).0);
       same_search = refl;
       same_k = refl;
@@ -64,12 +49,6 @@ returns-clause-steps g c =
       );
       short_wait = omega (arith, c.next.ensures.asked, c.self.invariant.asking_is.few);
     })
-
-pub next-requires-clause-fits : goal.next-requires-clause-fits
-next-requires-clause-fits g c =
-    let best = c.self.inside.best in
-    let knows = c.self.invariant.knows in
-    few-enough (g.S.Tally.value_of best.search) (g.S.Tally.candidates best.search) best.k c.self.inside.after c.self.inside.asking knows.fits knows.most c.self.invariant.counted
 
 pub invariant_of-self : goal.invariant_of-self
 invariant_of-self g c =
