@@ -3,11 +3,14 @@
 //! A bound over rows has a multiplier for each row. Any multipliers are right, and some rounds over the rows can move
 //! them so that the bound ends a node. A round costs work. So a search counts what moves achieve and what they cost, by
 //! the number of seats left, and moves where they save work. Nothing is proved of these counts.
+ghost use Rattle.std.specs.Prelude.{⊤};
+
 use crate::multipliers::Moved;
 use crate::node::Node;
 use ballot_base::{CandSet, MOST_MEMBERS};
 use std::array;
 use std::cell::Cell;
+use std::marker::Model;
 
 /// What a move achieved is counted in parts of this number; a node that ended is all of them. Means are in such parts
 /// of one as well.
@@ -33,7 +36,7 @@ const LEVELS: usize = MOST_MEMBERS as usize + 1;
 const MEMORY: u64 = 50;
 
 /// What moves of multipliers achieve, and what they cost, by the number of seats left. With more than `MOST_MEMBERS`
-/// seats left nothing is moved. The unit of work is a visit to a set.
+/// seats left nothing is moved. The unit of work is a visit to a set. Contracts see nothing of them.
 #[derive(Drop)]
 pub struct Moves {
     // The work of a round over the rows.
@@ -41,6 +44,12 @@ pub struct Moves {
     // All work of the search so far.
     done: Cell<u64>,
     levels: [Cell<Level>; LEVELS],
+}
+
+impl Model for Moves {
+    ghost Value = { ⊤ };
+
+    ghost view = { λ _. tt };
 }
 
 impl Moves {
