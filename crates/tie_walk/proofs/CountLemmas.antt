@@ -107,7 +107,6 @@ module _ (m k : ℕ) (start : List ℕ) (up : IsIncreasing 1 m start) (size : le
       let rest = place-past m k place next (place-upto m k n start place.set low up size refl) past in
       record {
         next = ap (those_reaching value best) (from-past m k place next past) ∙ left;
-        place = rest;
         counted = record {
           all = omega (arith, still, nothing, all, entered-is);
           few = omega (arith, still, few, entered-is, low);

@@ -1,6 +1,6 @@
 -- In which ranges values and bounds lie, whatever the election is.
 use Rattle.std.proofs.lemmas.Grind.{common_steps}
-use Rattle.std.proofs.Common.{◌≡◌, ℕ, zero, suc, ◌+◌, ◌-◌, ◌*◌, ◌/◌, ◌^◌, ◌<◌, ◌≤◌, Bool, true, false, cond, List, ◌++◌, add-one, arith, get_or, length, lit≤, map, refl, sum, sym, take}
+use Rattle.std.proofs.Common.{◌≡◌, ℕ, zero, suc, ◌+◌, ◌-◌, ◌*◌, ◌/◌, ◌^◌, ◌<◌, ◌≤◌, ◌==◌, Bool, true, false, cond, List, ◌++◌, add-one, arith, get_or, length, lit≤, map, refl, sum, sym, take}
 use Rattle.std.specs.Prelude.{nat_le}
 use Rattle.std.specs.List.{range_with_len}
 use Rattle.std.proofs.Math.Nat.{div-mul-le_self, le-div_iff_mul-le, mul-le-mul_right, pow-le-pow_left, pow-le-pow_right}
@@ -12,7 +12,7 @@ use Rattle.ballot_base.specs.CommonMultiple.{common_multiple}
 use Rattle.ballot_base.specs.Increments.{increment, increments, denominator}
 use Rattle.ballot_base.specs.Ballots.{Row, Election, IsElection, hits}
 use Rattle.ballot_base.specs.declared.increments.ThieleRule.{ThieleRule}
-use Rattle.ballot_base.specs.declared.increments.ThieleRule.TheVariants.{Pav, Geom2, Geom3, Geom4}
+use Rattle.ballot_base.specs.declared.increments.ThieleRule.TheVariants.{Av, Pav, Cc, Geom2, Geom3, Geom4}
 use Rattle.ballot_base.proofs.Committees.{length-increasing}
 use Rattle.ballot_base.proofs.Increasing.{has_member-above}
 use Rattle.ballot_base.proofs.LeastMultiples.{common_multiple_most}
@@ -74,15 +74,22 @@ proportional e k committee valid most =
     increments-most Pav k largest_part (λ j h. part-le (common_multiple k) (common_multiple most_members) j (common_multiple_most k most_members most)) in
     omega (arith, thiele-most e (increments Pav k) committee (sum (increments Pav k)) valid (sum-take-le (increments Pav k)), all, all_parts)
 
-geometric-by : (rule : ThieleRule) (e : Election) (k : ℕ) (committee : List ℕ) → IsElection e
+powers-within : (rule : ThieleRule) (e : Election) (k : ℕ) (committee : List ℕ) → IsElection e
     → ((j : ℕ) → j ≤ k → increment rule k j ≤ largest_power j) → thiele_value (increments rule k) e.rows committee < 2 ^ 114
-geometric-by rule e k committee valid each =
+powers-within rule e k committee valid each =
     omega (arith, thiele-most e (increments rule k) committee (sum (increments rule k)) valid (sum-take-le (increments rule k)), increments-most rule k largest_power each, all_powers)
 
-pub geometric : (e : Election) (k : ℕ) (committee : List ℕ) → IsElection e → k ≤ most_members
-    → (thiele_value (increments Geom2 k) e.rows committee < 2 ^ 114) × (thiele_value (increments Geom3 k) e.rows committee < 2 ^ 114)
-    × (thiele_value (increments Geom4 k) e.rows committee < 2 ^ 114)
-geometric e k committee valid most = grind (arith, common_steps, geometric-by, power-most)
+some-power : (j : ℕ) → 1 ≤ largest_power j
+some-power j = pow-le-pow_right {n = 4} (omega arith) {i = 0} {j = most_members - j} (omega arith)
+
+pub thiele : (rule : ThieleRule) (e : Election) (k : ℕ) (committee : List ℕ) → IsElection e → k ≤ most_members
+    → thiele_value (increments rule k) e.rows committee < 2 ^ 114
+thiele Av e k committee valid most = powers-within Av e k committee valid (λ j h. some-power j)
+thiele Pav e k committee valid most = omega (arith, proportional e k committee valid most)
+thiele Cc e k committee valid most = powers-within Cc e k committee valid (λ j h. within (j == 1) 1 (largest_power j) (λ is. some-power j))
+thiele Geom2 e k committee valid most = powers-within Geom2 e k committee valid (λ j h. power-most 2 k j (omega arith) (omega arith) most)
+thiele Geom3 e k committee valid most = powers-within Geom3 e k committee valid (λ j h. power-most 3 k j (omega arith) (omega arith) most)
+thiele Geom4 e k committee valid most = powers-within Geom4 e k committee valid (λ j h. power-most 4 k j (omega arith) (omega arith) most)
 
 pub satisfaction : (e : Election) (committee : List ℕ) → IsElection e → satisfaction_value e.m e.rows committee < 2 ^ 125
 satisfaction e committee valid = omega (arith, satisfaction-most e (parts (common_multiple e.m)) committee valid refl)
@@ -127,16 +134,10 @@ pub proportional-ceiling : (e : Election) (k c : ℕ) (set : List ℕ) (left : �
 proportional-ceiling e k c set left valid small inside up fits =
     omega (arith, thiele-ceiling_most Pav e k c set left valid small inside up fits, common_multiple_most k most_members small, members_small)
 
-geometric-by_denominator : (rule : ThieleRule) (e : Election) (k c : ℕ) (set : List ℕ) (left : ℕ) → IsElection e → k ≤ most_members → c ≤ e.m → IsIncreasing 1 c set
+pub thiele-ceiling : (rule : ThieleRule) (e : Election) (k c : ℕ) (set : List ℕ) (left : ℕ) → IsElection e → k ≤ most_members → c ≤ e.m → IsIncreasing 1 c set
     → left ≤ e.m - c → ceiling (thiele_value (increments rule k) e.rows) e.m c set left ≤ 2 ^ 116
-geometric-by_denominator rule e k c set left valid small inside up fits =
+thiele-ceiling rule e k c set left valid small inside up fits =
     omega (arith, thiele-ceiling_most rule e k c set left valid small inside up fits, denominator-most rule k small)
-
-pub geometric-ceiling : (e : Election) (k c : ℕ) (set : List ℕ) (left : ℕ) → IsElection e → k ≤ most_members → c ≤ e.m → IsIncreasing 1 c set
-    → left ≤ e.m - c → (ceiling (thiele_value (increments Geom2 k) e.rows) e.m c set left ≤ 2 ^ 116)
-    × (ceiling (thiele_value (increments Geom3 k) e.rows) e.m c set left ≤ 2 ^ 116)
-    × (ceiling (thiele_value (increments Geom4 k) e.rows) e.m c set left ≤ 2 ^ 116)
-geometric-ceiling e k c set left valid small inside up fits = grind (arith, common_steps, geometric-by_denominator)
 
 -- the bound is the value of some committee
 pub satisfaction-ceiling : (e : Election) (c : ℕ) (set : List ℕ) (left : ℕ) → IsElection e → c ≤ e.m → IsIncreasing 1 c set → left ≤ e.m - c

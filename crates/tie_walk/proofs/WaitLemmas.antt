@@ -12,7 +12,7 @@ use Rattle.ballot_base.specs.Limits.{most_candidates}
 use Rattle.ballot_base.specs.Lists.{IsIncreasing, increasing_lists}
 use Rattle.ballot_base.proofs.Committees.{increasing_lists-contains, length-increasing}
 use Rattle.tie_walk.specs.Ceilings.{IsAdded, IsTight, IsExactAtBest, is_open}
-use Rattle.tie_walk.specs.Steps.Walks.{committees_below, IsPlace, IsPast, work_left, those_reaching, is_alive, waits_at, waits_after, waits_from}
+use Rattle.tie_walk.specs.Steps.Walks.{committees_below, IsPlace, IsPast, work_left, those_reaching, is_alive, waits_at, waits_after, waits_from, Progress, IsWait}
 use Rattle.tie_walk.specs.declared.walk.Prefix.{Prefix}
 use Rattle.tie_walk.proofs.OpenLemmas.{open-sizes, open-reaches}
 use Rattle.tie_walk.proofs.WalkLemmas.{below-split, below-full}
@@ -128,6 +128,12 @@ module _ (value : List ℕ → ℕ) (m k best : ℕ) where
         | inl alive ↦ omega (arith, some, waits-alive above prefix.c prefix.set alive)
         | inr dead ↦ omega (arith, some, waits-dead above prefix.c prefix.set dead, past, few, here.0)
       ]
+
+  -- nor does any part of the walk
+  pub wait-few : (from : Option Prefix) (before rest : Progress) (found : Option (List ℕ)) → 1 ≤ m → IsPlace m k from
+      → IsWait value m k best from before found rest → rest.ceilings ≤ before.ceilings + 4 * m
+  wait-few from before rest None some here is = omega (arith, is, waits-most from some here)
+  wait-few from before rest (Some set) some here is = omega (arith, is, waits-most from some here)
 
 -- where no bound is too high, each is exact at the best
 pub tight-exact : (value : List ℕ → ℕ) (bound : ℕ → List ℕ → ℕ → ℕ) (m k best : ℕ) → IsTight value bound m k → IsExactAtBest value bound m k best

@@ -3,7 +3,7 @@
 use Rattle.std.specs.Borrow.{Bor}
 use Rattle.std.proofs.Common.{sym, ◌≡◌, ℕ, ◌+◌, ◌*◌, List, [], ◌∷◌, true, false, refl, lit≤, lit<, Some, None, sum}
 use Rattle.ballot_base.specs.Lists.{lists_of}
-use Rattle.tie_walk.specs.Steps.Walks.{committees_below, committees_after, committees_from, IsPlace, IsPast, work_left, those_reaching, open_below, open_after, open_from, Progress, IsStride, is_alive, waits_at, waits_after, waits_from, IsWait, IsRaised, IsBegun, IsCounted, IsWalk, IsWinning, aim, aim_at, progress}
+use Rattle.tie_walk.specs.Steps.Walks.{committees_below, committees_after, committees_from, IsPlace, IsPast, work_left, those_reaching, open_below, open_after, open_from, Progress, IsStride, is_alive, waits_at, waits_after, waits_from, IsWait, IsBegun, IsCounted, IsWalk, IsWinning, aim, aim_at, progress}
 use Rattle.tie_walk.specs.declared.walk.Prefix.{Prefix}
 use Rattle.tie_walk.specs.declared.walk.Walk.{Walk}
 
@@ -78,16 +78,6 @@ three_open_from_one : open_from bound_of_three 3 2 5 (Some with_one) ≡ 3
 unfolding bound_of_three with_one
 three_open_from_one = refl
 
--- with 1 the bound is 4
-past_one_is_a_stride : IsStride sum bound_of_three 3 2 5 (Some with_one) 1 None first_without_one
-unfolding lists_of bound_of_three with_one without_one first_without_one
-past_one_is_a_stride = record { next = refl; count = refl; place = (lit≤ tt, tt, lit≤ tt) }
-
--- a bound was asked for, which did not let the walk in; of 18 places 9 are left
-raised_past_one : IsRaised 3 (Some with_one) first_with_one first_without_one
-unfolding with_one without_one first_with_one first_without_one
-raised_past_one = record { entered = lit≤ tt; asked = lit≤ tt; work = lit≤ tt }
-
 -- ---- how many bounds are asked for at most until 2 and 3 is found
 none_with_one : is_alive sum 3 2 5 1 (1 ∷ []) ≡ false
 unfolding lists_of
@@ -120,7 +110,7 @@ counted_with_one = record { all = lit≤ tt; few = lit≤ tt; exact = λ e. refl
 
 begun_with_one : IsBegun sum bound_of_three 3 2 5 None first_with_one
 unfolding lists_of bound_of_three with_one first_with_one
-begun_with_one = record { next = refl; place = (lit≤ tt, (lit≤ tt, lit≤ tt, tt), lit≤ tt); counted = counted_with_one }
+begun_with_one = record { next = refl; counted = counted_with_one }
 
 -- a walk of a tally that shows its number of candidates
 module _ (three : Bor ℕ) (is : three.now ≡ 3) where
@@ -149,3 +139,19 @@ module _ (three : Bor ℕ) (is : three.now ≡ 3) where
   winning_pairs : IsWinning (λ m. m) (λ m. bound_of_three) None first_walk
   unfolding first_walk first_with_one
   winning_pairs = record { walk_is = walk_of_pairs; counted = counted_with_one }
+
+  second_walk : Walk ℕ
+  second_walk = record first_walk { place = Some without_one; ceilings = 2 }
+
+  -- with 1 the bound is 4: a bound was asked for, which did not let the walk in; of 18 places 9 are left
+  past_one_is_a_stride : IsStride (λ m. sum) (λ m. bound_of_three) first_walk (Some with_one) None second_walk
+  unfolding lists_of bound_of_three with_one without_one first_walk second_walk
+  past_one_is_a_stride = record {
+    same = refl;
+    next = refl;
+    count = refl;
+    entered = lit≤ tt;
+    asked = lit≤ tt;
+    work = lit≤ tt;
+    wait = λ exact. lit≤ tt;
+  }

@@ -66,8 +66,7 @@ pub fn ceilings()
 pub fn live_prefixes()
     ensures { (bound : ℕ → List ℕ → ℕ → ℕ) (m k best : ℕ) (after : Option (List ℕ)) (prefix : Prefix)
         → IsIncreasing 1 prefix.c prefix.set → prefix.c ≤ m → IsLive bound m k best after prefix
-        ↔ ((c : ℕ) → c ≤ prefix.c
-        → 1 ≤ live_below bound m k best after (m - c) c (members_upto prefix.set c)) }
+        ↔ ((c : ℕ) → c ≤ prefix.c → 1 ≤ live_below bound m k best after (m - c) c (members_upto prefix.set c)) }
 {}
 
 /// If no bound is too high, a bound that reaches a value shows that some completion reaches it, whatever is best.
@@ -123,15 +122,13 @@ pub fn sequential_order()
         → AllPairs (λ set other. set ≢ other) (sequential_winners rule e k) }
 {}
 
-/// How large values are under proportional approval voting, the geometric rules and satisfaction approval voting, times
-/// their denominators, whatever the election is. So no sum of a tally wraps.
+/// How large values are under Thiele's rules and satisfaction approval voting, times their denominators, whatever the
+/// election is. So no sum of a tally wraps.
 pub fn ranges()
     ensures proportional { (e : Election) (k : ℕ) (committee : List ℕ) → IsElection e → k ≤ most_members
         → thiele_value (increments ThieleRule.Pav k) e.rows committee < 2 ^ 87 }
-    ensures geometric { (e : Election) (k : ℕ) (committee : List ℕ) → IsElection e → k ≤ most_members
-        → (thiele_value (increments ThieleRule.Geom2 k) e.rows committee < 2 ^ 114)
-        × (thiele_value (increments ThieleRule.Geom3 k) e.rows committee < 2 ^ 114)
-        × (thiele_value (increments ThieleRule.Geom4 k) e.rows committee < 2 ^ 114) }
+    ensures thiele { (rule : ThieleRule) (e : Election) (k : ℕ) (committee : List ℕ) → IsElection e → k ≤ most_members
+        → thiele_value (increments rule k) e.rows committee < 2 ^ 114 }
     ensures satisfaction { (e : Election) (committee : List ℕ) → IsElection e
         → satisfaction_value e.m e.rows committee < 2 ^ 125 }
 {}
@@ -142,11 +139,9 @@ pub fn ceiling_ranges()
     ensures proportional { (e : Election) (k c : ℕ) (set : List ℕ) (left : ℕ) → IsElection e → k ≤ most_members
         → c ≤ e.m → IsIncreasing 1 c set → left ≤ e.m - c
         → ceiling (thiele_value (increments ThieleRule.Pav k) e.rows) e.m c set left < 2 ^ 91 }
-    ensures geometric { (e : Election) (k c : ℕ) (set : List ℕ) (left : ℕ) → IsElection e → k ≤ most_members
-        → c ≤ e.m → IsIncreasing 1 c set → left ≤ e.m - c
-        → (ceiling (thiele_value (increments ThieleRule.Geom2 k) e.rows) e.m c set left ≤ 2 ^ 116)
-        × (ceiling (thiele_value (increments ThieleRule.Geom3 k) e.rows) e.m c set left ≤ 2 ^ 116)
-        × (ceiling (thiele_value (increments ThieleRule.Geom4 k) e.rows) e.m c set left ≤ 2 ^ 116) }
+    ensures thiele { (rule : ThieleRule) (e : Election) (k c : ℕ) (set : List ℕ) (left : ℕ) → IsElection e
+        → k ≤ most_members → c ≤ e.m → IsIncreasing 1 c set → left ≤ e.m - c
+        → ceiling (thiele_value (increments rule k) e.rows) e.m c set left ≤ 2 ^ 116 }
     ensures satisfaction { (e : Election) (c : ℕ) (set : List ℕ) (left : ℕ) → IsElection e
         → c ≤ e.m → IsIncreasing 1 c set → left ≤ e.m - c
         → ceiling (satisfaction_value e.m e.rows) e.m c set left < 2 ^ 122 }

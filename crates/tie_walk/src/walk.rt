@@ -3,11 +3,11 @@
 //!
 //! `proofs/WalkLemmas.antt` shows that what the walk leaves out has no winner. `LiveLemmas.antt` and `OpenLemmas.antt`
 //! show that each prefix it enters is live.
-ghost use Rattle.std.specs.Prelude.{◌≡◌, ◌+◌, ◌*◌, ◌^◌, ◌<◌, ◌≤◌, false, None, Some, if◌then◌else◌};
+ghost use Rattle.std.specs.Prelude.{◌≡◌, ◌+◌, ◌^◌, ◌<◌, ◌≤◌, false, None, Some, if◌then◌else◌};
 ghost use Rattle.ballot_base.specs.Limits.{most_candidates};
 ghost use Rattle.ballot_base.specs.Lists.{IsIncreasing};
-ghost use Rattle.tie_walk.specs.Steps.Walks.{opens, HasNone, IsBegun, IsExact, IsPast, IsPlace, IsRaised};
-ghost use Rattle.tie_walk.specs.Steps.Walks.{IsStrideFrom, IsWaitFrom, IsWalk, aim, aim_at, progress, work_left};
+ghost use Rattle.tie_walk.specs.Steps.Walks.{IsBegun, IsPast, IsPlace, IsStride, IsWalk, HasNone};
+ghost use Rattle.tie_walk.specs.Steps.Walks.{aim, aim_at, opens, progress, work_left};
 ghost use Rattle.tie_walk.specs.Winners.{IsStart};
 
 use crate::tally::Tally;
@@ -126,10 +126,7 @@ impl<'a, T: Tally> Walk<'a, T> {
         requires place { IsPlace self.old.m self.old.k (Some prefix.now) }
         requires asks { self.old.ceilings + work_left self.old.m (Some prefix.now) < 2 ^ 127 }
         ensures walk { IsWalk T.candidates self.new }
-        ensures aim { aim self.new ≡ aim self.old }
-        ensures stride { IsStrideFrom T.value_of T.bound_of self.old (Some prefix.now) result self.new }
-        ensures raised { IsRaised self.old.m (Some prefix.now) (progress self.old) (progress self.new) }
-        ensures wait { IsWaitFrom T.value_of T.bound_of self.old (Some prefix.now) result self.new }
+        ensures stride { IsStride T.value_of T.bound_of self.old (Some prefix.now) result self.new }
         ensures work { work_left self.old.m self.new.place < work_left self.old.m (Some prefix.now) }
         ensures early { prefix.now.c < self.old.m → result ≡ None }
     {
@@ -154,11 +151,7 @@ impl<'a, T: Tally> Walk<'a, T> {
         requires walk { IsWalk T.candidates self.old }
         requires fits { self.old.ceilings + work_left self.old.m self.old.place < 2 ^ 127 }
         ensures walk { IsWalk T.candidates self.new }
-        ensures aim { aim self.new ≡ aim self.old }
-        ensures stride { IsStrideFrom T.value_of T.bound_of self.old self.old.place result self.new }
-        ensures raised { IsRaised self.old.m self.old.place (progress self.old) (progress self.new) }
-        ensures wait { IsExact T.value_of T.bound_of self.old
-            → self.new.ceilings ≤ self.old.ceilings + 4 * self.old.m }
+        ensures stride { IsStride T.value_of T.bound_of self.old self.old.place result self.new }
         ensures end { result ≡ None → self.new.place ≡ None }
     {
         while let Some(prefix) = self.place {

@@ -82,14 +82,6 @@ pub record Progress : Type 0 where
 abbrev pub progress : {T : Type 0} → Walk T → Progress
 progress walk = record { place = walk.place; entered = walk.entered; ceilings = walk.ceilings }
 
--- a part of the walk over the winners: which winner it finds, and where it goes on
-pub record IsStride (value : List ℕ → ℕ) (bound : ℕ → List ℕ → ℕ → ℕ) (m k best : ℕ) (from : Option Prefix)
-    (entered : ℕ) (found : Option (List ℕ)) (rest : Progress) : Type 0 where
-  pub next : those_reaching value best (committees_from m k from)
-      ≡ option_to_list found ++ those_reaching value best (committees_from m k rest.place)
-  pub count : rest.entered + open_from bound m k best rest.place ≡ entered + open_from bound m k best from
-  pub place : IsPlace m k rest.place
-
 module _ (value : List ℕ → ℕ) (m k best : ℕ) where
   -- whether some committee below the prefix reaches the best value
   abbrev pub is_alive : ℕ → List ℕ → Bool
@@ -115,19 +107,6 @@ module _ (value : List ℕ → ℕ) (m k best : ℕ) where
   IsWait from before None rest = rest.ceilings + waits_from rest.place ≤ before.ceilings + waits_from from
   IsWait from before (Some set) rest = rest.ceilings ≤ before.ceilings + waits_from from
 
--- the same of a walk
-module _ {T : Type 0} (value : T → List ℕ → ℕ) (bound : T → ℕ → List ℕ → ℕ → ℕ) (old : Walk T) where
-  abbrev pub IsExact : Type 0
-  IsExact = IsExactAtBest (value old.tally.now) (bound old.tally.now) old.m old.k old.best
-
-  abbrev pub IsStrideFrom : Option Prefix → Option (List ℕ) → Walk T → Type 0
-  IsStrideFrom from found new = IsStride (value old.tally.now) (bound old.tally.now) old.m old.k old.best from
-      old.entered found (progress new)
-
-  abbrev pub IsWaitFrom : Option Prefix → Option (List ℕ) → Walk T → Type 0
-  IsWaitFrom from found new =
-      IsExact → IsWait (value old.tally.now) old.m old.k old.best from (progress old) found (progress new)
-
 -- whether a walk may enter a prefix
 abbrev pub opens : {T : Type 0} → (T → ℕ → List ℕ → ℕ → ℕ) → Walk T → Prefix → Bool
 opens bound walk prefix = is_open (bound walk.tally.now) walk.m walk.k walk.best prefix.c prefix.set
@@ -137,11 +116,20 @@ abbrev pub HasNone : {T : Type 0} → (T → List ℕ → ℕ) → Walk T → Pr
 HasNone value walk prefix =
     those_reaching (value walk.tally.now) walk.best (committees_below walk.m walk.k prefix.c prefix.set) ≡ []
 
--- what that part adds to the counts: they rise, and there are at most as many bounds as passed prefixes
-pub record IsRaised (m : ℕ) (from : Option Prefix) (before rest : Progress) : Type 0 where
-  pub entered : before.entered ≤ rest.entered
-  pub asked : before.ceilings ≤ rest.ceilings
-  pub work : rest.ceilings + work_left m rest.place ≤ before.ceilings + work_left m from
+-- A part of a walk over the winners: which winner it finds, and where it goes on. Its counts rise: there are at most as
+-- many bounds as passed prefixes, and few if bounds are exact at the best value.
+pub record IsStride {T : Type 0} (value : T → List ℕ → ℕ) (bound : T → ℕ → List ℕ → ℕ → ℕ) (old : Walk T)
+    (from : Option Prefix) (found : Option (List ℕ)) (new : Walk T) : Type 0 where
+  pub same : aim new ≡ aim old
+  pub next : those_reaching (value old.tally.now) old.best (committees_from old.m old.k from)
+      ≡ option_to_list found ++ those_reaching (value old.tally.now) old.best (committees_from old.m old.k new.place)
+  pub count : new.entered + open_from (bound old.tally.now) old.m old.k old.best new.place
+      ≡ old.entered + open_from (bound old.tally.now) old.m old.k old.best from
+  pub entered : old.entered ≤ new.entered
+  pub asked : old.ceilings ≤ new.ceilings
+  pub work : new.ceilings + work_left old.m new.place ≤ old.ceilings + work_left old.m from
+  pub wait : IsExactAtBest (value old.tally.now) (bound old.tally.now) old.m old.k old.best
+      → IsWait (value old.tally.now) old.m old.k old.best from (progress old) found (progress new)
 
 -- What a walk has counted. The prefixes entered and those still to be entered are all live ones, and at most m others,
 -- which lie on the way to a start.
@@ -158,7 +146,6 @@ pub record IsBegun (value : List ℕ → ℕ) (bound : ℕ → List ℕ → ℕ 
     (progress : Progress) : Type 0 where
   pub next : those_reaching value best (committees_from m k progress.place)
       ≡ those_reaching value best (later_than after (increasing_lists 1 m k))
-  pub place : IsPlace m k progress.place
   pub counted : IsCounted bound m k best after progress
 
 -- what is true of each walk over the committees of k of a tally's candidates

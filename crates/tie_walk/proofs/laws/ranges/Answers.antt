@@ -1,5 +1,5 @@
-use Rattle.tie_walk.proofs.RangeLemmas.{geometric, proportional, satisfaction}
+use Rattle.tie_walk.proofs.RangeLemmas.{proportional, satisfaction, thiele}
 use Rattle.tie_walk.proofs.laws.ranges.Goals as goal
 
 pub returns : goal.returns
-returns c = record { proportional = proportional; geometric = geometric; satisfaction = satisfaction }
+returns c = record { proportional = proportional; thiele = thiele; satisfaction = satisfaction }

@@ -26,7 +26,6 @@ returns-in_default-clause-begun g c =
     subst (λ (o : Option (List ℕ)). IsBegun (g.T.Tally.value_of c.args.tally.now) (g.T.Tally.bound_of c.args.tally.now) m c.args.k c.args.best o (progress c.visit.new.self)) (sym c.in_default.is)
     (record {
       next = grind (arith, common_steps, root);
-      place = grind (arith, common_steps);
       counted = record {
         all = grind (arith, common_steps, all-live);
         few = grind (arith, common_steps, all-live);

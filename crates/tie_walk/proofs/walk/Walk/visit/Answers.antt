@@ -6,7 +6,7 @@ use Rattle.std.proofs.lemmas.Bool.{leb-false}
 use Rattle.ballot_base.proofs.Increasing.{with_member-above}
 use Rattle.tie_walk.specs.declared.walk.Prefix.{Prefix}
 use Rattle.tie_walk.specs.Steps.Walks.{Progress, IsWait, those_reaching, waits_from}
-use Rattle.tie_walk.proofs.WalkLemmas.{place-past, work-past}
+use Rattle.tie_walk.proofs.WalkLemmas.{work-past}
 use Rattle.tie_walk.proofs.OpenLemmas.{place-first, reaching-past, reaching-whole, from-first, open-sizes, passed, entered-first, entered-last}
 use Rattle.tie_walk.proofs.WaitLemmas.{alive-none, alive-open, alive-whole, waits-some, wait-past, wait-first}
 use Rattle.tie_walk.proofs.walk.Walk.visit.Goals as goal
@@ -22,7 +22,15 @@ wait_by value m k best from before rest set true some none = some refl
 wait_by value m k best from before rest set false some none = absurd (none refl)
 
 pub returns-then-not-enter-clause-stride : goal.returns-then-not-enter-clause-stride
-returns-then-not-enter-clause-stride g c = grind (arith, common_steps, reaching-past, passed, place-past)
+returns-then-not-enter-clause-stride g c = record {
+  same = c.enter.ensures.aim;
+  next = grind (arith, common_steps, reaching-past);
+  count = grind (arith, common_steps, passed);
+  entered = grind (arith, common_steps);
+  asked = c.enter.ensures.asked;
+  work = grind (arith, common_steps, work-past);
+  wait = λ exact. grind (arith, common_steps, alive-none, wait-past);
+}
 
 pub returns-then-not-enter-clause-work : goal.returns-then-not-enter-clause-work
 returns-then-not-enter-clause-work g c = work-past c.args.self.now.m c.args.self.now.k c.args.prefix.now c.past-self.result c.past-self.ensures
@@ -49,8 +57,8 @@ returns-then-c-m g c =
     let open-is = sym asked.open ∙ c.if-not-enter.false in
     record {
       walk = grind (arith, common_steps);
-      aim = asked.aim;
       stride = record {
+        same = asked.aim;
         next = ap (those_reaching value w.best) (sym first.0);
         count = omega (
           arith,
@@ -58,39 +66,30 @@ returns-then-c-m g c =
           asked.entered,
           ap {B = ℕ} (λ b. cond b 1 0) c.if-not-enter.false,
         );
-        place = place;
-      };
-      raised = record {
         entered = omega (arith, asked.entered);
         asked = asked.asked;
         work = omega (arith, asked.once, first.1);
+        wait = λ exact. omega (
+          arith,
+          asked.once,
+          wait-first value w.m w.k w.best p next c.if-c-m.true c.requires.place refl grown full
+              (alive-open value w.m w.k w.best bound p.c p.set exact c.requires.place.0 c.requires.place.1 open-is),
+        );
       };
-      wait = λ exact. omega (
-        arith,
-        asked.once,
-        wait-first value w.m w.k w.best p next c.if-c-m.true c.requires.place refl grown full
-            (alive-open value w.m w.k w.best bound p.c p.set exact c.requires.place.0 c.requires.place.1 open-is),
-      );
       work = first.1;
       early = λ more. refl;
     }
 
 pub returns-clause-stride : goal.returns-clause-stride
-returns-clause-stride g c =
-    grind (arith, common_steps, open-sizes, found_by, entered-last, reaching-whole, place-past)
-
-pub returns-then-not-enter-clause-raised : goal.returns-then-not-enter-clause-raised
-returns-then-not-enter-clause-raised g c = grind (arith, common_steps, work-past)
-
-pub returns-clause-raised : goal.returns-clause-raised
-returns-clause-raised g c = grind (arith, common_steps, work-past)
-
-pub returns-then-not-enter-clause-wait : goal.returns-then-not-enter-clause-wait
-returns-then-not-enter-clause-wait g c exact = grind (arith, common_steps, alive-none, wait-past)
-
-pub returns-clause-wait : goal.returns-clause-wait
-returns-clause-wait g c exact =
-    grind (arith, common_steps, open-sizes, alive-open, alive-whole, waits-some, wait_by, leb-false)
+returns-clause-stride g c = record {
+  same = c.enter.ensures.aim;
+  next = grind (arith, common_steps, open-sizes, found_by, reaching-whole);
+  count = grind (arith, common_steps, entered-last);
+  entered = grind (arith, common_steps);
+  asked = c.enter.ensures.asked;
+  work = grind (arith, common_steps, work-past);
+  wait = λ exact. grind (arith, common_steps, open-sizes, alive-open, alive-whole, waits-some, wait_by, leb-false);
+}
 
 pub returns-then-not-enter-clause-walk : goal.returns-then-not-enter-clause-walk
 returns-then-not-enter-clause-walk g c = grind (arith, common_steps)
