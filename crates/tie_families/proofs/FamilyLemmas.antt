@@ -18,7 +18,7 @@ use Rattle.tie_walk.specs.declared.sequential.Step.{Step}
 use Rattle.tie_walk.specs.declared.sequential.Step.TheVariants.{Grow, Shrink}
 use Rattle.tie_walk.proofs.RowSums.{AreBallots}
 use Rattle.tie_families.specs.Clones.{has_as_many, is_between}
-use Rattle.tie_families.specs.Steps.Levels.{end, end_or, chosen, other_end, IsBelow, IsAhead, IsOf, IsPlaced, IsFamilyLevel, AreFamilies}
+use Rattle.tie_families.specs.Steps.Levels.{end, end_or, chosen, other_end, IsBelow, IsAhead, IsOf, IsPlaced, IsFamilyLevel, AreFamilies, AreReached, other_end_by}
 use Rattle.tie_families.proofs.Lists.{same_tests, count-others}
 use Rattle.tie_families.proofs.LevelLemmas.{ahead-turned, level-candidates}
 use Rattle.tie_families.proofs.SpanLemmas.{IsSpan, end-span}
@@ -201,8 +201,7 @@ level-families rule e k fits ballots sets level =
     }
 
 -- the same, by other names for the parts of the level
-pub last-families : (rule : SeqRule) (e : Election) (k size : ℕ) (step : Step) (weights : List ℕ) (sets ends : List (List ℕ)) → k ≤ e.m → AreBallots e.m e.rows → step ≡ step_of rule → size ≡ choices_of rule e.m k
-    → weights ≡ hit_weights rule e.m → IsFamilyLevel step weights e.m e.rows size sets → ends ≡ map (other_end step weights e.m e.rows k) sets
-    → AreFamilies rule e k (leasts_of step sets ends) (mosts_of step sets ends)
-last-families rule e k size step weights sets ends fits ballots by many are level ends-are =
-    rw (ends-are, by, are) (level-families rule e k fits ballots sets (rw (by, many, are) at level))
+pub last-families : (rule rule' : SeqRule) (e e' : Election) (k size : ℕ) (step : Step) (sets ends : List (List ℕ)) → rule' ≡ rule → e' ≡ e → k ≤ e.m → AreBallots e.m e.rows → step ≡ step_of rule → size ≡ choices_of rule e.m k
+    → AreReached rule' e' size sets → ends ≡ map (other_end_by rule' e' k) sets → AreFamilies rule e k (leasts_of step sets ends) (mosts_of step sets ends)
+last-families rule rule' e e' k size step sets ends same same' fits ballots by many level ends-are =
+    rw (ends-are, same, same', by) (level-families rule e k fits ballots sets (rw (same, same', many) at level))

@@ -1,24 +1,24 @@
 -- What one choice does to a family, as the code finds it.
 use Rattle.std.proofs.lemmas.Grind.{common_steps}
-use Rattle.std.proofs.Common.{◌≡◌, ℕ, ◌+◌, ◌-◌, ◌<◌, ◌≤◌, ◌^◌, ◌==◌, ◌&&◌, ◌++◌, ◌∙◌, cond, length, Some, None, subst, Bool, true, List, [], ◌∷◌, refl, sym, ap, arith, inl, inr, filter, map, get_or, append_assoc}
+use Rattle.std.proofs.Common.{◌≡◌, ℕ, ◌+◌, ◌-◌, ◌≤◌, ◌==◌, ◌&&◌, ◌∙◌, cond, length, not, Some, None, Bool, true, false, List, [], ◌∷◌, refl, sym, ap, arith, filter, map, get_or}
 use Rattle.std.specs.Prelude.{fold, nat_le, nat_lt}
-use Rattle.std.specs.List.{list_all, range_with_len}
-use Rattle.std.proofs.lemmas.Bool.{cases_Bool, and_left}
-use Rattle.std.proofs.Math.Bool.{and_assoc, and-true}
-use Rattle.ballot_base.specs.CandSet.{has_member, with_member}
+use Rattle.std.specs.List.{list_all, range_with_len, AllByRecursion}
+use Rattle.std.proofs.lemmas.Bool.{and_parts, and_from, not-true, both_ways, cases_eq, eq-eqb, ne_eqb, le-leb, leb-true}
+use Rattle.ballot_base.specs.CandSet.{has_member, common_members, members_upto, other_members, without_member}
 use Rattle.ballot_base.specs.Ballots.{Row}
-use Rattle.ballot_base.proofs.Increasing.{IsIncreasing-filter, has_member-filter, with_member-above}
+use Rattle.ballot_base.proofs.Increasing.{has_member-filter, has_member_head}
 use Rattle.ballot_base.proofs.ListLemmas.{all_range, list_all-same}
 use Rattle.tie_walk.proofs.LawLemmas.{IsIncreasing-range}
+use Rattle.tie_walk.proofs.LevelLemmas.{in_bounds}
 use Rattle.tie_walk.specs.Sequences.{gain, others}
-use Rattle.tie_walk.specs.Steps.Choices.{may_choose, change, worth, is_no_better, better, worst, open_candidates, is_choice, HasSetsOf}
+use Rattle.tie_walk.specs.Steps.Choices.{may_choose, change, open_candidates, is_choice}
 use Rattle.tie_walk.specs.declared.sequential.Step.{Step}
 use Rattle.tie_walk.specs.declared.sequential.Step.TheVariants.{Grow, Shrink}
-use Rattle.tie_walk.proofs.FoundLemmas.{found-more}
-use Rattle.tie_walk.proofs.StepLemmas.{best-is, filter-next, has_member-range}
+use Rattle.tie_walk.proofs.StepLemmas.{filter-twice, has_member-range}
 use Rattle.tie_walk.proofs.WinnersLemmas.{greatest, bounds-greatest, same_filter}
 use Rattle.ballot_base.specs.Clones.{clones_among}
 use Rattle.tie_families.specs.Steps.Levels.{is_first_open, is_settled, has_settled, ties, shares_no_voter, tied_worth, end, chosen, followed, family_changes}
+use Rattle.tie_families.proofs.Lists.{all-at, all-from, same_tests, open-is, open-from}
 use Rattle.ballot_base.specs.Clones.{AreClones}
 
 no_more : (n : ℕ) → nat_le n 0 ≡ (n == 0)
@@ -36,71 +36,85 @@ settled-is Grow weights m rows set best is =
     ∙ list_all-same (λ c. nat_le (w c) 0) (λ c. w c == 0) (others m set) (λ c. no_more (w c)))
 settled-is Shrink weights m rows set best is = refl
 
-worths-are : (f g : ℕ → ℕ) → ((c : ℕ) → f c ≡ g c) → (xs : List ℕ) → map f xs ≡ map g xs
-worths-are f g same [] = refl
-worths-are f g same (x ∷ xs) = ap (λ n. n ∷ map f xs) (same x) ∙ ap (λ l. g x ∷ l) (worths-are f g same xs)
+-- ---- the first of the clones
 
-pub best-found : (step : Step) (weights : List ℕ) (m n : ℕ) (rows : List Row) (set : List ℕ) (w : ℕ → ℕ) (best : ℕ) → n ≡ m → ((c : ℕ) → w c ≡ worth step weights rows set c)
-    → best ≡ fold (better step) (worst step) (map w (open_candidates step n set)) → best ≡ tied_worth step weights m rows set
-best-found step weights m n rows set w best same are is = grind (arith, common_steps, map, same, worths-are)
+-- no clone below c may be chosen exactly where those that may be chosen have no member below c
+pub first-free : (step : Step) (m c : ℕ) (class set : List ℕ) (b : Bool) → c ≤ m → (b ≡ true → members_upto (common_members class (open_candidates step m set)) (c - 1) ≡ []) × (members_upto (common_members class (open_candidates step m set)) (c - 1) ≡ [] → b ≡ true)
+    → is_first_open step class set c ≡ b
+first-free step m c class set b high is =
+    same_tests (is_first_open step class set c) b (λ first. is.1 (none low refl first))
+    (λ empty. all-from test (range_with_len 1 (c - 1)) (λ d inside. false_not (has_member class d && may_choose step set d) (λ both. absurd (out d inside both (is.0 empty)))))
+  where
+    free : List ℕ
+    free = open_candidates step m set
 
-module _ (step : Step) (weights : List ℕ) (m : ℕ) (rows : List Row) (set : List ℕ) (w : ℕ → ℕ) (best : ℕ) where
-  choice-is : ((c : ℕ) → w c ≡ worth step weights rows set c) → ((c : ℕ) → w c ≤ 2 ^ 128 - 1) → best ≡ tied_worth step weights m rows set
-      → (c : ℕ) → 1 ≤ c → c < 1 + m → (may_choose step set c && (w c == best)) ≡ is_choice step weights m rows set c
-  choice-is are fit is c low high =
-      let all = open_candidates step m set in
-      let member : has_member all c ≡ may_choose step set c = has_member-filter (may_choose step set) (range_with_len 1 m) c ∙ ap (λ b. may_choose step set c && b) (has_member-range 1 m c low high) ∙ and-true (may_choose step set c) in
-      elim (cases_Bool (may_choose step set c)) [
-        | inl free ↦
-            let inside : has_member all c ≡ true = member ∙ free in
-            let here : (w c == best) ≡ list_all (λ d. is_no_better step (worth step weights rows set d) (worth step weights rows set c)) all =
-            ap (λ n. w c == n) (is ∙ ap (fold (better step) (worst step)) (sym (worths-are w (worth step weights rows set) are all))) ∙ best-is step w all c inside (fit c)
-            ∙ list_all-same (λ d. is_no_better step (w d) (w c)) (λ d. is_no_better step (worth step weights rows set d) (worth step weights rows set c)) all
-            (λ d. ap (λ n. is_no_better step n (w c)) (are d) ∙ ap (λ n. is_no_better step (worth step weights rows set d) n) (are c)) in
-            ap (λ b. b && (w c == best)) (sym member) ∙ ap (λ b. has_member all c && b) here
-        | inr shut ↦
-            and_left (may_choose step set c) (w c == best) shut
-            ∙ sym (and_left (has_member all c) (list_all (λ d. is_no_better step (worth step weights rows set d) (worth step weights rows set c)) all) (member ∙ shut))
-      ]
+    low : List ℕ
+    low = members_upto (common_members class free) (c - 1)
 
-  -- those whom the code finds are the first of the clones that tie
-  pub ties-are : (table : List (List ℕ)) → ((c : ℕ) → w c ≡ worth step weights rows set c) → ((c : ℕ) → w c ≤ 2 ^ 128 - 1) → best ≡ tied_worth step weights m rows set
-      → AreClones m rows table
-      → filter (λ c. may_choose step set c && (w c == best && is_first_open step (get_or table c []) set c)) (range_with_len 1 m) ≡ ties step weights m rows set
-  ties-are table are fit is clones =
-      same_filter (λ c. may_choose step set c && (w c == best && is_first_open step (get_or table c []) set c)) (λ c. is_choice step weights m rows set c && is_first_open step (clones_among m rows c) set c) (range_with_len 1 m)
-      (all_range (λ c. (may_choose step set c && (w c == best && is_first_open step (get_or table c []) set c)) ≡ (is_choice step weights m rows set c && is_first_open step (clones_among m rows c) set c)) 1 m
-      (λ c low high. sym (and_assoc (may_choose step set c) (w c == best) (is_first_open step (get_or table c []) set c))
-      ∙ ap (λ b. b && is_first_open step (get_or table c []) set c) (choice-is are fit is c low high)
-      ∙ ap (λ s. is_choice step weights m rows set c && is_first_open step s set c) (clones c low (omega (arith, high)))))
+    test : ℕ → Bool
+    test d = not (has_member class d && may_choose step set d)
 
--- one candidate more of those that pass
-pub passes-more : (p : ℕ → Bool) (c : ℕ) (old new : List ℕ) → 1 ≤ c → p c ≡ true → old ≡ filter p (range_with_len 1 (c - 1)) → new ≡ with_member old c → new ≡ filter p (range_with_len 1 (c + 1 - 1))
-passes-more p c old new low is before more =
-    more ∙ ap (λ s. with_member s c) before
-    ∙ with_member-above 1 (c - 1) (filter p (range_with_len 1 (c - 1))) c (IsIncreasing-filter p 1 (c - 1) (range_with_len 1 (c - 1)) (IsIncreasing-range 1 (c - 1) (c - 1) (omega arith))) (omega (arith, low))
-    ∙ sym (filter-next p c low ∙ ap (λ b. filter p (range_with_len 1 (c - 1)) ++ cond b (c ∷ []) []) is)
+    false_not : (x : Bool) → (x ≡ true → not x ≡ true) → not x ≡ true
+    false_not true f = f refl
+    false_not false f = refl
+
+    member : (d : ℕ) → has_member low d ≡ (nat_le d (c - 1) && (has_member free d && has_member class d))
+    member d = has_member-filter (λ n. nat_le n (c - 1)) (common_members class free) d ∙ ap (λ x. nat_le d (c - 1) && x) (has_member-filter (has_member free) class d)
+
+    out : (d : ℕ) → has_member (range_with_len 1 (c - 1)) d ≡ true → (has_member class d && may_choose step set d) ≡ true → low ≡ [] → ⊥
+    out d inside both empty =
+        let bounds = in_bounds (c - 1) (range_with_len 1 (c - 1)) d (IsIncreasing-range 1 (c - 1) (c - 1) (omega arith)) inside in
+        let parts = and_parts (has_member class d) (may_choose step set d) both in
+        let here : has_member low d ≡ true =
+        member d ∙ and_from (nat_le d (c - 1)) (has_member free d && has_member class d) (le-leb d (c - 1) bounds.1)
+        (and_from (has_member free d) (has_member class d) (open-from step m set d bounds.0 (omega (arith, bounds.1, high)) parts.1) parts.0) in
+        let f : false ≡ true = sym (ap (λ l. has_member l d) empty) ∙ here in cc
+
+    none : (xs : List ℕ) → low ≡ xs → is_first_open step class set c ≡ true → low ≡ []
+    none [] same first = same
+    none (d ∷ xs) same first =
+        let here : has_member low d ≡ true = ap (λ l. has_member l d) same ∙ has_member_head d xs in
+        let parts = and_parts (nat_le d (c - 1)) (has_member free d && has_member class d) (sym (member d) ∙ here) in
+        let both = and_parts (has_member free d) (has_member class d) parts.1 in
+        let free-is = open-is step m set d both.0 in
+        let passes : test d ≡ true = all-at test (range_with_len 1 (c - 1)) d first (has_member-range 1 (c - 1) d free-is.0.0 (omega (arith, leb-true d (c - 1) parts.0))) in
+        absurd (both_ways (has_member class d && may_choose step set d) (not-true (has_member class d && may_choose step set d) passes) (and_from (has_member class d) (may_choose step set d) both.1 free-is.1))
+
+-- those whom the code finds are the first of the clones that tie
+pub firsts-are : (step : Step) (weights : List ℕ) (m : ℕ) (rows : List Row) (set : List ℕ) (table : List (List ℕ)) → AreClones m rows table
+    → filter (λ c. is_first_open step (get_or table c []) set c) (filter (is_choice step weights m rows set) (range_with_len 1 m)) ≡ ties step weights m rows set
+firsts-are step weights m rows set table clones =
+    filter-twice (is_choice step weights m rows set) (λ c. is_first_open step (get_or table c []) set c) (range_with_len 1 m)
+    ∙ same_filter (λ c. is_choice step weights m rows set c && is_first_open step (get_or table c []) set c) (λ c. is_choice step weights m rows set c && is_first_open step (clones_among m rows c) set c) (range_with_len 1 m)
+    (all_range (λ c. (is_choice step weights m rows set c && is_first_open step (get_or table c []) set c) ≡ (is_choice step weights m rows set c && is_first_open step (clones_among m rows c) set c)) 1 m
+    (λ c low high. ap (λ s. is_choice step weights m rows set c && is_first_open step s set c) (clones c low (omega (arith, high)))))
 
 -- ---- the end, as the code finds it
 
-pub end-found : (step : Step) (weights : List ℕ) (m n : ℕ) (rows : List Row) (set : List ℕ) (w : ℕ → ℕ) (best : ℕ) → n ≡ m → ((c : ℕ) → w c ≡ worth step weights rows set c)
-    → best ≡ fold (better step) (worst step) (map w (open_candidates step n set))
+pub fold-without : (set choices : List ℕ) → other_members set choices ≡ fold without_member set choices
+fold-without set [] = keep set
+  where
+    keep : (xs : List ℕ) → filter (λ n. not (has_member [] n)) xs ≡ xs
+    keep [] = refl
+    keep (x ∷ xs) = ap (λ l. x ∷ l) (keep xs)
+fold-without set (c ∷ choices) =
+    same_filter (λ n. not (has_member (c ∷ choices) n)) (λ n. not (n == c) && not (has_member choices n)) set (each set)
+    ∙ sym (filter-twice (λ n. not (n == c)) (λ n. not (has_member choices n)) set) ∙ fold-without (without_member set c) choices
+  where
+    one : (n : ℕ) → not (has_member (c ∷ choices) n) ≡ (not (n == c) && not (has_member choices n))
+    one n = grind (arith, common_steps, cases_eq, not, eq-eqb, ne_eqb)
+
+    each : (xs : List ℕ) → AllByRecursion (λ n. not (has_member (c ∷ choices) n) ≡ (not (n == c) && not (has_member choices n))) xs
+    each [] = tt
+    each (x ∷ xs) = (one x, each xs)
+
+pub end-found : (step : Step) (weights : List ℕ) (m : ℕ) (rows : List Row) (set : List ℕ) (best : ℕ) → best ≡ tied_worth step weights m rows set
     → end step weights m rows set ≡ cond (has_settled step best) (Some (range_with_len 1 m))
     (cond (nat_lt 0 best && (nat_le 2 (length (ties step weights m rows set)) && shares_no_voter rows (ties step weights m rows set))) (Some (fold (change step) set (ties step weights m rows set))) None)
 unfolding end
-end-found step weights m n rows set w best same are found =
-    let is = best-found step weights m n rows set w best same are found in
-    rw (settled-is step weights m rows set best is, is) refl
+end-found step weights m rows set best is = rw (settled-is step weights m rows set best is, is) refl
 
 -- ---- what follows a set, as the code finds it
-
--- the first of the sets that are left is inserted
-pub found-first : (all keys new left : List (List ℕ)) (set : List ℕ) → HasSetsOf all (keys ++ set ∷ left) → HasSetsOf (keys ++ set ∷ []) new → HasSetsOf all (new ++ left)
-found-first all keys new left set before one other = (λ inside. (before other).0 ((same other).0 inside), λ inside. (same other).1 ((before other).1 inside))
-  where
-    same : HasSetsOf (keys ++ set ∷ left) (new ++ left)
-    same = subst (λ l. HasSetsOf l (new ++ left)) (append_assoc keys (set ∷ []) left)
-        (found-more (keys ++ set ∷ []) new left (new ++ left) one (λ s. (λ inside. inside, λ inside. inside)))
 
 pub changes-none : (step : Step) (weights : List ℕ) (m : ℕ) (rows : List Row) (size : ℕ) (set : List ℕ) → end step weights m rows set ≡ None
     → map (change step set) (ties step weights m rows set) ≡ family_changes step weights m rows size set

@@ -17,7 +17,7 @@ use crate::levels::Levels;
 use ballot_base::{CandSet, Clones, Profile};
 use std::alloc::{AllocError, Allocator, Global};
 use std::marker::Model;
-use tie_walk::sequential::{Step, hit_weights};
+use tie_walk::sequential::{Choices, Step};
 use tie_walk::{SeqRule, Tally};
 
 /// The committees of size `k` that some sequence of choices of a sequential rule makes, as families. A family is a pair
@@ -57,19 +57,14 @@ impl<'a, A: Allocator + Copy + Drop> Families<'a, A> {
         requires fits { k ≤ profile.now.m }
         ensures { IfOk result (λ families. families ≡ sequential_of profile.now rule k) }
     {
-        let m = profile.m();
         let clones = Clones::of(profile);
-        let weights = hit_weights(rule, m);
-        let step = rule.step();
         let levels = Levels {
-            profile,
+            choices: Choices::new(profile, rule),
             clones: &clones,
-            step,
-            weights: &weights[..usize::from(m)],
         };
-        let sets = levels.reached_families(alloc, rule.choices(m, k))?;
+        let sets = levels.reached_families(alloc, rule.choices(profile.m(), k))?;
         let ends = levels.other_ends(alloc, k, &sets)?;
-        let (leasts, mosts) = match step {
+        let (leasts, mosts) = match rule.step() {
             Step::Grow => (sets, ends),
             Step::Shrink => (ends, sets),
         };

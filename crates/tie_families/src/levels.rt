@@ -13,186 +13,93 @@
 //! stays in the levels until enough choices were made to reach its end, and stands for all sets between the two.
 //! `proofs/LevelLemmas.antt` shows, by induction over levels, that the families have exactly the committees that some
 //! sequence of choices makes.
-ghost use Rattle.std.specs.Prelude.{◌≡◌, ℕ, ◌++◌, ◌^◌, ◌<◌, ◌≤◌, false, None, IfOk, OnOk, fold, map, length, slice_index};
+ghost use Rattle.std.specs.Prelude.{◌≡◌, ◌<◌, ◌≤◌, None, IfOk, map};
 ghost use Rattle.std.specs.List.{AllByRecursion};
-ghost use Rattle.ballot_base.specs.Limits.{most_candidates};
-ghost use Rattle.ballot_base.specs.Lists.{IsIncreasing};
-ghost use Rattle.tie_walk.specs.Steps.Choices.{HasSetsOf, change, worth};
 ghost use Rattle.ballot_base.specs.Clones.{AreClones};
-ghost use Rattle.tie_families.specs.Steps.Levels.{is_first_open, has_settled, ties, tied_worth, shares_no_voter, end, chosen, family_changes, other_end, IsFalling, IsFamilyLevel, IsNextFamilies};
+ghost use Rattle.ballot_base.specs.Lists.{IsIncreasing};
+ghost use Rattle.tie_walk.specs.Steps.Choices.{tied_by};
+ghost use Rattle.tie_families.specs.Steps.Levels.{shares_no_voter, ties_by, end_by, other_end_by, AreFollowing, AreReached};
 
-use ballot_base::{CandSet, Clones, Profile, Worths};
+use ballot_base::{CandSet, Clones, Profile};
 use std::alloc::{AllocError, Allocator};
 use std::collections::HashSet;
-use std::hash::{BuildHasherDefault, FoldHasher};
-use tie_walk::sequential::{Step, best_worth, in_order, worths};
-
-/// The families of a level that were found so far, each once.
-type FoundFamilies<A> = HashSet<CandSet, BuildHasherDefault<FoldHasher>, A>;
-
-/// Whether none of the clones below `c` may be chosen.
-fn is_first_open(step: Step, clones: CandSet, set: CandSet, c: u8) -> bool
-    ensures { result ≡ is_first_open step clones set c }
-{
-    (1..c).all(|d| !(clones.has(d) && step.may_choose(set, d)))
-}
-
-/// Whether no candidate adds anything to a set, given the best worth.
-fn is_settled(step: Step, best: u128) -> bool
-    ensures { result ≡ has_settled step best }
-{
-    matches!(step, Step::Grow) && best == 0
-}
-
-fn shares_no_voter<A: Allocator + Copy>(profile: &Profile<A>, candidates: CandSet) -> bool
-    ensures { result ≡ shares_no_voter profile.now.rows candidates }
-{
-    profile
-        .ballots()
-        .all(|(ballot, _voters)| ballot.common(candidates).len() <= 1)
-}
-
-/// The set after all of these choices.
-fn after_all(step: Step, set: CandSet, choices: CandSet) -> CandSet
-    ensures { result ≡ fold (change step) set choices }
-{
-    let mut after = set;
-    for candidate in choices.members() {
-        after = step.change(after, candidate);
-    }
-    after
-}
-
-/// The number of choices that lead to a set.
-fn chosen(step: Step, m: u8, set: CandSet) -> u8
-    requires { m ≤ most_candidates }
-    ensures { result ≡ chosen step m set }
-{
-    match step {
-        Step::Grow => set.len(),
-        Step::Shrink => CandSet::all(m).minus(set).len(),
-    }
-}
-
-/// Adds the sets that these choices make of a set, one choice each, except those that were found before.
-fn insert_each<A: Allocator + Copy>(
-    next: &mut FoundFamilies<A>,
-    step: Step,
-    set: CandSet,
-    choices: CandSet,
-) -> Result<(), AllocError>
-    ensures { OnOk result (HasSetsOf (next.old.keys ++ map (change step set) choices) next.new.keys) }
-{
-    for candidate in choices.members() {
-        next.insert(step.change(set, candidate))?;
-    }
-    Ok(())
-}
+use tie_walk::sequential::{Choices, Step, in_order};
 
 /// A sequential rule on a profile, followed level by level: level `n` has the families that `n` choices make.
 #[derive(Drop)]
 pub(crate) struct Levels<'a, A: Allocator + Copy> {
-    pub(crate) profile: &'a Profile<A>,
+    pub(crate) choices: Choices<'a, A>,
     pub(crate) clones: &'a Clones,
-    pub(crate) step: Step,
-    pub(crate) weights: &'a [u128],
-    ghost classes: { AreClones profile.now.m profile.now.rows clones.now },
-    ghost small: { (j : ℕ) → slice_index weights.now j < 2 ^ 90 },
-    ghost falling: { IsFalling weights.now },
+    ghost classes: { AreClones choices.profile.now.m choices.profile.now.rows clones.now },
 }
 
 impl<A: Allocator + Copy> Levels<'_, A> {
-    /// The candidates who may be chosen next, given the worth of each candidate and the best worth. Of clones who tie,
-    /// only the first is among them.
-    fn ties(&self, worths: &Worths, best: u128, set: CandSet) -> CandSet
-        requires worths { (c : ℕ)
-            → slice_index worths.now c ≡ worth self.now.step self.now.weights.now self.now.profile.now.rows set c }
-        requires best { best ≡ tied_worth
-            self.now.step self.now.weights.now self.now.profile.now.m self.now.profile.now.rows set }
-        ensures { result ≡ ties
-            self.now.step self.now.weights.now self.now.profile.now.m self.now.profile.now.rows set }
+    /// Those of the tied candidates who have no clone before them that may be chosen.
+    fn firsts(&self, set: CandSet, tied: CandSet) -> CandSet
+        requires { tied ≡ tied_by self.now.choices.rule self.now.choices.profile.now set }
+        ensures { result ≡ ties_by self.now.choices.rule self.now.choices.profile.now set }
     {
-        let mut ties = CandSet::empty();
-        for c in 1..self.profile.m() + 1 {
-            if self.step.may_choose(set, c)
-                && worths.of(c) == best
-                && is_first_open(self.step, self.clones.class(c), set, c)
-            {
-                ties = ties.with(c);
+        let m = self.choices.profile.m();
+        let free = self.choices.rule.step().open_candidates(m, set);
+        let mut firsts = tied;
+        for c in tied.members() {
+            if !self.clones.class(c).common(free).upto(c - 1).is_empty() {
+                firsts = firsts.without(c);
             }
         }
-        ties
+        firsts
     }
 
     /// The set that all choices lead to if they may be made in any order. If there is no such set, the candidates who
-    /// may be chosen next are returned as well.
+    /// may be chosen next are returned as well: of clones who tie, only the first.
     fn ties_and_end(&self, set: CandSet) -> (CandSet, Option<CandSet>)
-        ensures ties { result.1 ≡ None → result.0 ≡ ties
-            self.now.step self.now.weights.now self.now.profile.now.m self.now.profile.now.rows set }
-        ensures end { result.1 ≡ end
-            self.now.step self.now.weights.now self.now.profile.now.m self.now.profile.now.rows set }
+        ensures ties { result.1 ≡ None → result.0 ≡ ties_by self.now.choices.rule self.now.choices.profile.now set }
+        ensures end { result.1 ≡ end_by self.now.choices.rule self.now.choices.profile.now set }
     {
-        let totals = worths(self.profile, self.step, self.weights, set);
-        let best = best_worth(self.step, self.profile.m(), &totals, set);
-        if is_settled(self.step, best) {
-            return (CandSet::empty(), Some(CandSet::all(self.profile.m())));
+        let profile = self.choices.profile;
+        let step = self.choices.rule.step();
+        let (best, tied) = self.choices.tied(set);
+        if matches!(step, Step::Grow) && best == 0 {
+            return (tied, Some(CandSet::all(profile.m())));
         }
-        let tied = self.ties(&totals, best, set);
-        if best > 0 && tied.len() >= 2 && shares_no_voter(self.profile, tied) {
-            return (tied, Some(after_all(self.step, set, tied)));
+        let ties = self.firsts(set, tied);
+        if best > 0 && ties.len() >= 2 && shares_no_voter(profile, ties) {
+            let end = match step {
+                Step::Grow => set.union(ties),
+                Step::Shrink => set.minus(ties),
+            };
+            return (ties, Some(end));
         }
-        (tied, None)
-    }
-
-    /// Adds the families that follow a set of level `size`, except those that were found before.
-    fn insert_changes(
-        &self,
-        next: &mut FoundFamilies<A>,
-        size: u8,
-        set: CandSet,
-    ) -> Result<(), AllocError>
-        requires set { IsIncreasing 1 self.now.profile.now.m set }
-        requires size { size < self.now.profile.now.m }
-        ensures { OnOk result (HasSetsOf (next.old.keys ++ family_changes
-            self.now.step self.now.weights.now self.now.profile.now.m self.now.profile.now.rows size set)
-            next.new.keys) }
-    {
-        let (tied, end) = self.ties_and_end(set);
-        let Some(last) = end else {
-            return insert_each(next, self.step, set, tied);
-        };
-        let is_over = chosen(self.step, self.profile.m(), last) <= size + 1;
-        next.insert(if is_over { last } else { set })?;
-        Ok(())
-    }
-
-    /// The other end of a family of committees of size `k`: its set if that has size `k`, and otherwise its `end`.
-    fn other_end(&self, k: u8, set: CandSet) -> CandSet
-        ensures { result ≡ other_end
-            self.now.step self.now.weights.now self.now.profile.now.m self.now.profile.now.rows k set }
-    {
-        if set.len() == k {
-            return set;
-        }
-        self.ties_and_end(set).1.unwrap_or(set)
+        (ties, None)
     }
 }
 
 impl<A: Allocator + Copy + Drop> Levels<'_, A> {
+    /// The families that follow those of level `size`.
     fn next_level(
         &self,
         alloc: A,
         size: u8,
         level: &[CandSet],
     ) -> Result<Vec<CandSet, A>, AllocError>
-        requires size { size < self.now.profile.now.m }
-        requires sets { AllByRecursion (λ set. IsIncreasing 1 self.now.profile.now.m set) level.now }
-        ensures { IfOk result (λ next. IsNextFamilies self.now.step self.now.weights.now
-            self.now.profile.now.m self.now.profile.now.rows size level.now next.items) }
+        requires size { size < self.now.choices.profile.now.m }
+        requires sets { AllByRecursion (λ set. IsIncreasing 1 self.now.choices.profile.now.m set) level.now }
+        ensures { IfOk result (λ next. AreFollowing
+            self.now.choices.rule self.now.choices.profile.now size level.now next.items) }
     {
+        let Choices { profile, rule, .. } = &self.choices;
         let mut found = HashSet::new(alloc);
         for set in level {
-            self.insert_changes(&mut found, size, *set)?;
+            let (ties, end) = self.ties_and_end(*set);
+            match end {
+                Some(end) if rule.choices(profile.m(), end.len()) <= size + 1 => {
+                    found.insert(end)?;
+                }
+                Some(_) => {
+                    found.insert(*set)?;
+                }
+                None => rule.step().insert_each(&mut found, *set, ties)?,
+            }
         }
         in_order(alloc, &found)
     }
@@ -203,32 +110,46 @@ impl<A: Allocator + Copy + Drop> Levels<'_, A> {
         alloc: A,
         choices: u8,
     ) -> Result<Vec<CandSet, A>, AllocError>
-        requires { choices ≤ self.now.profile.now.m }
-        ensures { IfOk result (λ sets. IsFamilyLevel
-            self.now.step self.now.weights.now self.now.profile.now.m self.now.profile.now.rows choices sets.items) }
+        requires { choices ≤ self.now.choices.profile.now.m }
+        ensures { IfOk result (λ sets. AreReached
+            self.now.choices.rule self.now.choices.profile.now choices sets.items) }
     {
         let mut level = Vec::new(alloc);
-        level.push(self.step.start(self.profile.m()))?;
+        level.push(self.choices.rule.step().start(self.choices.profile.m()))?;
         for done in 0..choices {
             level = self.next_level(alloc, done, &level)?;
         }
         Ok(level)
     }
 
-    /// The other ends of families, in order.
+    /// The other end of each family of committees of size `k`, in order: its set if that has size `k`, and otherwise
+    /// the set that all choices lead to.
     pub(crate) fn other_ends(
         &self,
         alloc: A,
         k: u8,
         sets: &[CandSet],
     ) -> Result<Vec<CandSet, A>, AllocError>
-        ensures { IfOk result (λ ends. ends.items ≡ map (other_end
-            self.now.step self.now.weights.now self.now.profile.now.m self.now.profile.now.rows k) sets.now) }
+        ensures { IfOk result (λ ends. ends.items
+            ≡ map (other_end_by self.now.choices.rule self.now.choices.profile.now k) sets.now) }
     {
         let mut ends = Vec::with_capacity(alloc, sets.len())?;
         for set in sets {
-            ends.push(self.other_end(k, *set))?;
+            let end = if set.len() == k {
+                None
+            } else {
+                self.ties_and_end(*set).1
+            };
+            ends.push(end.unwrap_or(*set))?;
         }
         Ok(ends)
     }
+}
+
+fn shares_no_voter<A: Allocator + Copy>(profile: &Profile<A>, candidates: CandSet) -> bool
+    ensures { result ≡ shares_no_voter profile.now.rows candidates }
+{
+    profile
+        .ballots()
+        .all(|(ballot, _voters)| ballot.common(candidates).len() <= 1)
 }

@@ -1,6 +1,6 @@
 -- The sets of a level as they are found, each once.
-use Rattle.std.proofs.Common.{◌≡◌, ℕ, ◌+◌, ◌-◌, ◌<◌, ◌≤◌, ◌++◌, Bool, true, false, cond, List, [], ◌∷◌, sym, ap, ◌∙◌, subst, inl, inr, arith, map, filter, length, take, get_or, Contains, Result, Ok, Err, IfOk, append_assoc, append-nil}
-use Rattle.std.specs.List.{list_any, flat_map, range_with_len}
+use Rattle.std.proofs.Common.{◌≡◌, ℕ, ◌+◌, ◌<◌, ◌≤◌, ◌++◌, Bool, true, false, cond, List, [], ◌∷◌, sym, ap, ◌∙◌, subst, inl, inr, arith, length, take, get_or, Contains, Result, Ok, Err, IfOk, append_assoc, append-nil}
+use Rattle.std.specs.List.{list_any, flat_map}
 use Rattle.std.specs.Str.{bytes_eq}
 use Rattle.std.proofs.lemmas.Bool.{cases_Bool}
 use Rattle.std.proofs.lemmas.Cmp.{nat_list_eq_equiv}
@@ -10,7 +10,6 @@ use Rattle.std.proofs.lemmas.List.Elements.{Contains-append_cases, Contains-appe
 use Rattle.std.proofs.lemmas.Map.Views.{Contains-from_any, list_any-from_Contains}
 use Rattle.std.proofs.lemmas.Slice.Eq.{bytes_eq-Decides}
 use Rattle.tie_walk.specs.Steps.Choices.{HasSetsOf, IsInOrder}
-use Rattle.tie_walk.proofs.StepLemmas.{map-taken, filter-left}
 
 -- ---- sets that are inserted
 
@@ -53,20 +52,13 @@ found-more sets old more new before after set = (
   ],
 )
 
--- ---- the sets that one choice makes, candidate by candidate
-
-module _ (make : ℕ → List ℕ) (p : ℕ → Bool) (first : List (List ℕ)) where
-  abbrev pub found_by : ℕ → List (List ℕ)
-  found_by n = first ++ map make (filter p (range_with_len 1 n))
-
-  pub found-taken : (c : ℕ) (old new : List (List ℕ)) → 1 ≤ c → p c ≡ true → HasSetsOf (found_by (c - 1)) old → HasSetsOf (old ++ make c ∷ []) new → HasSetsOf (found_by (c + 1 - 1)) new
-  found-taken c old new low is before one =
-      subst (λ l. HasSetsOf l new)
-      (append_assoc first (map make (filter p (range_with_len 1 (c - 1)))) (make c ∷ []) ∙ ap (λ l. first ++ l) (sym (map-taken make p c low is)))
-      (found-more (found_by (c - 1)) old (make c ∷ []) new before one)
-
-  pub found-left : (c : ℕ) (found : List (List ℕ)) → 1 ≤ c → p c ≡ false → HasSetsOf (found_by (c - 1)) found → HasSetsOf (found_by (c + 1 - 1)) found
-  found-left c found low is before = subst (λ l. HasSetsOf (first ++ map make l) found) (sym (filter-left p c low is)) before
+-- the first of the sets that are left is inserted
+pub found-first : (all keys new left : List (List ℕ)) (set : List ℕ) → HasSetsOf all (keys ++ set ∷ left) → HasSetsOf (keys ++ set ∷ []) new → HasSetsOf all (new ++ left)
+found-first all keys new left set before one other = (λ inside. (before other).0 ((same other).0 inside), λ inside. (same other).1 ((before other).1 inside))
+  where
+    same : HasSetsOf (keys ++ set ∷ left) (new ++ left)
+    same = subst (λ l. HasSetsOf l (new ++ left)) (append_assoc keys (set ∷ []) left)
+        (found-more (keys ++ set ∷ []) new left (new ++ left) one (λ s. (λ inside. inside, λ inside. inside)))
 
 -- ---- the sets that one choice makes of those of a level, set by set
 

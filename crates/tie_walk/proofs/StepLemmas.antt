@@ -1,8 +1,8 @@
 -- The best candidates of a set, found one by one.
 use Rattle.std.proofs.lemmas.Grind.{common_steps}
-use Rattle.std.proofs.Common.{◌≡◌, ℕ, zero, suc, ◌+◌, ◌-◌, ◌<◌, ◌≤◌, ◌^◌, ◌==◌, ◌&&◌, ◌++◌, Bool, true, false, cond, List, [], ◌∷◌, sym, ap, ◌∙◌, arith, inl, inr, map, filter, min, append-nil}
+use Rattle.std.proofs.Common.{◌≡◌, ℕ, zero, suc, ◌+◌, ◌-◌, ◌<◌, ◌≤◌, ◌^◌, ◌==◌, ◌&&◌, ◌++◌, Bool, true, false, cond, List, [], ◌∷◌, refl, sym, ap, ◌∙◌, arith, inl, inr, map, filter, max, min, append-nil, unwrap_or}
 use Rattle.std.specs.Prelude.{fold, nat_le}
-use Rattle.std.specs.List.{list_all, range_with_len, AllByRecursion}
+use Rattle.std.specs.List.{list_all, range_with_len, reduce, AllByRecursion}
 use Rattle.std.proofs.lemmas.Bool.{cases_Bool, eqb-true, eq-eqb, or_left, or_cases, and_left}
 use Rattle.std.proofs.lemmas.List.{map-append}
 use Rattle.std.proofs.lemmas.List.Elements.{filter-append}
@@ -97,6 +97,24 @@ best-is Shrink w xs c inside fits =
     sym (at_most_is_equal (w c) best (at_member (λ d. best ≤ w d) xs c (values-lowest w high xs) inside))
     ∙ sym (bounds-lowest w high (w c) xs) ∙ ap (λ b. b && list_all (λ d. nat_le (w c) (w d)) xs) (no_more (w c) high fits)
 
+pub filter-twice : (p q : ℕ → Bool) (xs : List ℕ) → filter q (filter p xs) ≡ filter (λ x. p x && q x) xs
+filter-twice p q [] = refl
+filter-twice p q (x ∷ xs) = grind (arith, common_steps, cases_Bool, filter-twice p q xs, filter)
+
+pub worths-are : (f g : ℕ → ℕ) → ((c : ℕ) → f c ≡ g c) → (xs : List ℕ) → map f xs ≡ map g xs
+worths-are f g same [] = refl
+worths-are f g same (x ∷ xs) = ap (λ n. n ∷ map f xs) (same x) ∙ ap (λ l. g x ∷ l) (worths-are f g same xs)
+
+pub worths-fit : (f : ℕ → ℕ) (high : ℕ) → ((c : ℕ) → f c ≤ high) → (xs : List ℕ) → AllByRecursion (λ x. x ≤ high) (map f xs)
+worths-fit f high fit [] = tt
+worths-fit f high fit (x ∷ xs) = (fit x, worths-fit f high fit xs)
+
+-- the best of the worths, as an iterator finds it
+pub best-of : (step : Step) (xs : List ℕ) → AllByRecursion (λ x. x ≤ 2 ^ 128 - 1) xs → unwrap_or (reduce (better step) xs) (worst step) ≡ fold (better step) (worst step) xs
+best-of step [] fit = refl
+best-of Grow (x ∷ xs) fit = ap (λ n. fold max n xs) (omega arith)
+best-of Shrink (x ∷ xs) fit = ap (λ n. fold min n xs) (omega (arith, fit.0))
+
 module _ (step : Step) (weights : List ℕ) (m : ℕ) (rows : List Row) (set : List ℕ) (w : ℕ → ℕ) (best : ℕ) where
   choice-is : ((c : ℕ) → w c ≡ worth step weights rows set c) → ((c : ℕ) → w c ≤ 2 ^ 128 - 1) → best ≡ fold (better step) (worst step) (map w (open_candidates step m set))
       → (c : ℕ) → 1 ≤ c → c < 1 + m → (may_choose step set c && (w c == best)) ≡ is_choice step weights m rows set c
@@ -104,10 +122,15 @@ module _ (step : Step) (weights : List ℕ) (m : ℕ) (rows : List Row) (set : L
       grind (arith, common_steps, has_member-filter, has_member-range, and-true, cases_Bool, best-is, list_all-same, and_left)
 
   -- the candidates with the best worth are the choices
-  pub changes-made : ((c : ℕ) → w c ≡ worth step weights rows set c) → ((c : ℕ) → w c ≤ 2 ^ 128 - 1) → best ≡ fold (better step) (worst step) (map w (open_candidates step m set))
-      → map (change step set) (filter (λ c. may_choose step set c && w c == best) (range_with_len 1 m)) ≡ changes step weights m rows set
-  unfolding changes
-  changes-made are fit is =
-      ap (map (change step set))
-      (same_filter (λ c. may_choose step set c && w c == best) (is_choice step weights m rows set) (range_with_len 1 m)
-      (all_range (λ c. (may_choose step set c && (w c == best)) ≡ is_choice step weights m rows set c) 1 m (choice-is are fit is)))
+  pub tied-are : ((c : ℕ) → w c ≡ worth step weights rows set c) → ((c : ℕ) → w c ≤ 2 ^ 128 - 1) → best ≡ fold (better step) (worst step) (map w (open_candidates step m set))
+      → filter (λ c. w c == best) (open_candidates step m set) ≡ filter (is_choice step weights m rows set) (range_with_len 1 m)
+  tied-are are fit is =
+      filter-twice (may_choose step set) (λ c. w c == best) (range_with_len 1 m)
+      ∙ same_filter (λ c. may_choose step set c && w c == best) (is_choice step weights m rows set) (range_with_len 1 m)
+      (all_range (λ c. (may_choose step set c && (w c == best)) ≡ is_choice step weights m rows set c) 1 m (choice-is are fit is))
+
+-- the sets that the choices make
+pub changes-are : (step : Step) (weights : List ℕ) (m : ℕ) (rows : List Row) (set : List ℕ)
+    → map (change step set) (filter (is_choice step weights m rows set) (range_with_len 1 m)) ≡ changes step weights m rows set
+unfolding changes
+changes-are step weights m rows set = refl

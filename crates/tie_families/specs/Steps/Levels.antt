@@ -7,8 +7,8 @@ use Rattle.std.specs.Ordering.{nat_cmp}
 use Rattle.ballot_base.specs.Lists.{IsIncreasing}
 use Rattle.ballot_base.specs.CandSet.{has_member}
 use Rattle.ballot_base.specs.Ballots.{Row, Election, hits}
-use Rattle.tie_walk.specs.Sequences.{weight, gain, others, is_sequential_winner}
-use Rattle.tie_walk.specs.Steps.Choices.{may_choose, change, worth, better, worst, open_candidates, is_choice, start, IsReached, IsInOrder}
+use Rattle.tie_walk.specs.Sequences.{hit_weights, weight, gain, others, is_sequential_winner}
+use Rattle.tie_walk.specs.Steps.Choices.{step_of, may_choose, change, worth, better, worst, open_candidates, is_choice, start, IsReached, IsInOrder}
 use Rattle.tie_walk.specs.declared.sequential.SeqRule.{SeqRule}
 use Rattle.tie_walk.specs.declared.sequential.Step.{Step}
 use Rattle.tie_walk.specs.declared.sequential.Step.TheVariants.{Grow, Shrink}
@@ -145,3 +145,21 @@ pub record AreFamilies (rule : SeqRule) (e : Election) (k : ℕ) (leasts mosts :
   pub reached : (committee : List ℕ) → IsIncreasing 1 e.m committee → length committee ≡ k
       → is_sequential_winner rule e k committee
       ≡ list_any (λ family. is_between e.m e.rows family.0 family.1 committee) (zip leasts mosts)
+
+-- ---- the same of a rule at an election
+
+abbrev pub ties_by : SeqRule → Election → List ℕ → List ℕ
+ties_by rule e set = ties (step_of rule) (hit_weights rule e.m) e.m e.rows set
+
+abbrev pub end_by : SeqRule → Election → List ℕ → Option (List ℕ)
+end_by rule e set = end (step_of rule) (hit_weights rule e.m) e.m e.rows set
+
+abbrev pub other_end_by : SeqRule → Election → ℕ → List ℕ → List ℕ
+other_end_by rule e k set = other_end (step_of rule) (hit_weights rule e.m) e.m e.rows k set
+
+-- `IsNextFamilies`, and `IsFamilyLevel`
+abbrev pub AreFollowing : SeqRule → Election → ℕ → List (List ℕ) → List (List ℕ) → Type 0
+AreFollowing rule e size level next = IsNextFamilies (step_of rule) (hit_weights rule e.m) e.m e.rows size level next
+
+abbrev pub AreReached : SeqRule → Election → ℕ → List (List ℕ) → Type 0
+AreReached rule e size sets = IsFamilyLevel (step_of rule) (hit_weights rule e.m) e.m e.rows size sets

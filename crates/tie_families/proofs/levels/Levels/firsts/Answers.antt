@@ -1,0 +1,79 @@
+use Rattle.std.proofs.Common.{◌≡◌, ℕ, ◌&&◌, ◌||◌, ◌∙◌, ◌∷◌, Bool, true, false, not, [], refl, sym, ap, subst, arith, get_or, filter, ◌-◌, ◌==◌}
+use Rattle.std.specs.List.{range_with_len}
+use Rattle.ballot_base.specs.Limits.{most_candidates}
+use Rattle.ballot_base.specs.Lists.{IsIncreasing}
+use Rattle.ballot_base.specs.CandSet.{has_member, common_members, members_upto}
+use Rattle.ballot_base.proofs.Increasing.{IsIncreasing-filter}
+use Rattle.ballot_base.proofs.Passed.{AreLeft, all-left, one-gone, one-kept, rest-up}
+use Rattle.tie_walk.specs.Sequences.{hit_weights}
+use Rattle.tie_walk.specs.Steps.Choices.{step_of, open_candidates, is_choice}
+use Rattle.tie_walk.proofs.LawLemmas.{IsIncreasing-range}
+use Rattle.tie_families.specs.Steps.Levels.{is_first_open}
+use Rattle.tie_families.proofs.StepLemmas.{first-free, firsts-are}
+use Rattle.tie_families.proofs.levels.Levels.firsts.Goals as goal
+use Rattle.tie_families.proofs.levels.Levels.firsts.Goals.{After-is_empty}
+
+all-there : (b x : Bool) → b ≡ (b && (b || x))
+all-there true x = refl
+all-there false x = refl
+
+-- whether the candidate is the first of its clones that may be chosen
+first-is : (g : _) (c : After-is_empty g) → is_first_open (step_of c.args.self.now.choices.rule) (get_or c.args.self.now.clones.now c.in-Some.c []) c.args.set c.in-Some.c ≡ c.is_empty.result
+first-is g c =
+    let s = c.args.self.now.choices in
+    let m = s.profile.now.m in
+    let step = step_of s.rule in
+    let class = get_or c.args.self.now.clones.now c.in-Some.c [] in
+    let low : c.upto.result ≡ members_upto (common_members class (open_candidates step m c.args.set)) (c.in-Some.c - 1) =
+    rw (c.upto.ensures, c.common.ensures, c.class.ensures, c.open_candidates-free.ensures, c.step.ensures, c.m-m.ensures.value) in
+    first-free step m c.in-Some.c class c.args.set c.is_empty.result (rest-up m c.in-Some.c c.loop-c.c-iterator c.next.new.self c.in-Some.ensures.steps c.loop-c.invariant.rises).0
+    (λ is. sym low ∙ c.is_empty.ensures.0 is, λ empty. c.is_empty.ensures.1 (low ∙ empty))
+
+pub loop-c-init : goal.loop-c-init
+loop-c-init g c =
+    let s = c.args.self.now.choices in
+    let e = s.profile.now in
+    let tied = c.args.tied in
+    let passes : ℕ → Bool = λ n. is_first_open (step_of s.rule) (get_or c.args.self.now.clones.now n []) c.args.set n in
+    let items : c.into_iter-c-iterator.result ≡ tied = c.into_iter-c-iterator.ensures.into_iter_gives ∙ c.members-c-items.ensures.items in
+    record {
+      rises = subst (IsIncreasing 1 e.m) (sym (items ∙ c.requires)) (IsIncreasing-filter (is_choice (step_of s.rule) (hit_weights s.rule e.m) e.m e.rows c.args.set) 1 e.m (range_with_len 1 e.m) (IsIncreasing-range 1 e.m e.m (omega arith)));
+      set = c.members-c-items.ensures.valid;
+      each = subst (AreLeft passes tied tied) (sym items) (λ n. all-there (has_member tied n) (passes n));
+    }
+
+pub loop-c-preserved-then-not-is_empty : goal.loop-c-preserved-then-not-is_empty
+loop-c-preserved-then-not-is_empty g c =
+    let s = c.args.self.now.choices in
+    let passes : ℕ → Bool = λ n. is_first_open (step_of s.rule) (get_or c.args.self.now.clones.now n []) c.args.set n in
+    let first = c.in-Some.c in
+    let rest = c.next.new.self in
+    let next = rest-up s.profile.now.m first c.loop-c.c-iterator rest c.in-Some.ensures.steps c.loop-c.invariant.rises in
+    let left : AreLeft passes c.args.tied c.loop-c.firsts (first ∷ rest) = subst (AreLeft passes c.args.tied c.loop-c.firsts) c.in-Some.ensures.steps c.loop-c.invariant.each in
+    rw c.without-firsts.ensures record {
+      rises = next.1;
+      set = IsIncreasing-filter (λ x. not (x == first)) 1 most_candidates c.loop-c.firsts c.loop-c.invariant.set;
+      each = one-gone passes c.args.tied c.loop-c.firsts rest first (first-is g (goal.at.loop-c-preserved-then-not-is_empty g c).After-is_empty ∙ c.if-not-is_empty.true) next.2 left;
+    }
+
+pub loop-c-preserved : goal.loop-c-preserved
+loop-c-preserved g c =
+    let s = c.args.self.now.choices in
+    let passes : ℕ → Bool = λ n. is_first_open (step_of s.rule) (get_or c.args.self.now.clones.now n []) c.args.set n in
+    let first = c.in-Some.c in
+    let rest = c.next.new.self in
+    let next = rest-up s.profile.now.m first c.loop-c.c-iterator rest c.in-Some.ensures.steps c.loop-c.invariant.rises in
+    let left : AreLeft passes c.args.tied c.loop-c.firsts (first ∷ rest) = subst (AreLeft passes c.args.tied c.loop-c.firsts) c.in-Some.ensures.steps c.loop-c.invariant.each in
+    record {
+      rises = next.1;
+      set = c.loop-c.invariant.set;
+      each = one-kept passes c.args.tied c.loop-c.firsts rest first (first-is g (goal.at.loop-c-preserved g c).After-is_empty ∙ c.if-not-is_empty.false) left;
+    }
+
+pub returns : goal.returns
+returns g c =
+    let s = c.args.self.now.choices in
+    let e = s.profile.now in
+    let passes : ℕ → Bool = λ n. is_first_open (step_of s.rule) (get_or c.args.self.now.clones.now n []) c.args.set n in
+    all-left passes c.args.tied most_candidates c.loop-c.firsts c.members-c-items.ensures.valid c.loop-c.invariant.set (subst (AreLeft passes c.args.tied c.loop-c.firsts) c.in-None.ensures.steps.0 c.loop-c.invariant.each)
+    ∙ ap (filter passes) c.requires ∙ firsts-are (step_of s.rule) (hit_weights s.rule e.m) e.m e.rows c.args.set c.args.self.now.clones.now c.args.self.now.classes
