@@ -1,8 +1,6 @@
 //! Branches: sets that committees may begin with, and the candidates that may still join them.
-ghost use Rattle.std.specs.Prelude.{◌≡◌, ℕ, ◌≤◌, true, List};
-ghost use Rattle.ballot_base.specs.Lists.{IsIncreasing};
-ghost use Rattle.tie_search.specs.Alike.{AreClasses, Becomes, HasClasses};
-ghost use Rattle.tie_search.specs.Steps.Branches.{IsBranch, completes};
+ghost use Rattle.std.specs.Prelude.{◌≡◌, false};
+ghost use Rattle.tie_search.specs.Steps.Branches.{IsUnsuited, completes};
 
 use ballot_base::{CandSet, Clones};
 
@@ -33,10 +31,7 @@ impl Branch {
     /// Whether the committee may become one that completes the branch if clones take the place of members. Only `false`
     /// is certain.
     pub(crate) fn suits(&self, clones: &Clones, committee: CandSet) -> bool
-        ensures { (m k : ℕ) (class : ℕ → List ℕ) (other : List ℕ) → IsBranch m k self.now
-            → HasClasses m class clones.now → ((c : ℕ) → 1 ≤ c → c ≤ m → IsIncreasing 1 m (class c))
-            → AreClasses m class → IsIncreasing 1 m committee → Becomes m class committee other
-            → completes self.now other ≡ true → result ≡ true }
+        ensures { result ≡ false → IsUnsuited self.now clones.now committee }
     {
         // Clones must take the place of members outside the branch, and of members of the set that the committee lacks.
         let outside = committee.minus(self.set.union(self.free));

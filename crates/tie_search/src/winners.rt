@@ -7,6 +7,7 @@ ghost use Rattle.std.specs.Iterator.{item_count};
 ghost use Rattle.ballot_base.specs.Lists.{later_than};
 ghost use Rattle.tie_walk.specs.Winners.{IsStart, best_value, winners};
 ghost use Rattle.tie_search.specs.Asked.{Asked, IsNextAsked, beginnings};
+ghost use Rattle.tie_search.specs.Steps.Branches.{IsListing, left_by};
 
 use crate::asking::{Asking, first_branches};
 use crate::best::Best;
@@ -25,9 +26,6 @@ pub struct SearchWinners<S: Searchable> {
 }
 
 impl<S: Searchable> Model for SearchWinners<S> {
-    ghost use Rattle.tie_search.specs.Asked.{Asked};
-    ghost use Rattle.tie_search.specs.Steps.Branches.{IsListing, left_by};
-
     ghost Value = { Asked S };
 
     ghost view = { λ w. record {

@@ -5,6 +5,7 @@ use Rattle.std.specs.List.{range_with_len}
 use Rattle.ballot_base.specs.CandSet.{either_members, includes}
 use Rattle.ballot_base.specs.Lists.{IsIncreasing, increasing_lists, later_than}
 use Rattle.tie_walk.specs.Winners.{winners}
+use Rattle.tie_search.specs.Alike.{AreClasses, Becomes, HasClasses}
 use Rattle.tie_search.specs.Asked.{beginnings, begins_some}
 use Rattle.tie_search.specs.Tied.{IsBest}
 use Rattle.tie_search.specs.Steps.Searched.{IsSearched}
@@ -47,6 +48,12 @@ pub record IsBranch (m k : ℕ) (branch : Branch) : Type 0 where
   pub set_upto : IsIncreasing 1 last branch.set
   pub free_after : IsIncreasing (last + 1) m branch.free
   pub size : length branch.set ≤ k
+
+-- whatever the committee becomes, if clones by these classes take the place of members, does not complete the branch
+abbrev pub IsUnsuited : Branch → List (List ℕ) → List ℕ → Type 0
+IsUnsuited branch classes committee = (m k : ℕ) (class : ℕ → List ℕ) (other : List ℕ) → IsBranch m k branch
+    → HasClasses m class classes → ((c : ℕ) → 1 ≤ c → c ≤ m → IsIncreasing 1 m (class c)) → AreClasses m class
+    → IsIncreasing 1 m committee → Becomes m class committee other → completes branch other ≡ true → ⊥
 
 -- a stack: each set has one member more than the set of the branch under it; the first set has `size` members
 abbrev pub AreStacked : ℕ → ℕ → ℕ → List Branch → Type 0

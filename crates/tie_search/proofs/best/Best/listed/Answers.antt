@@ -17,8 +17,7 @@ loop-i-preserved g c = record {
         get_or_default best.tied.committees c.loop-i.i [] c.index-self-i.result (omega (arith, c.loop-i-test.true, c.requires.knows.listed.few, long)) in
         let rises : IsIncreasing 1 m committee = (c.requires.knows.listed.each committee (c.loop-i.i, c.loop-i-test.true, at)).candidates in
         let here : Becomes m (g.S.WithClones.class_of best.search) committee other = subst (λ l. Becomes m (g.S.WithClones.class_of best.search) l other) (ap (λ n. get_or best.tied.committees n []) same ∙ at) becomes in
-        let suits : c.suits.result ≡ true = c.suits.ensures m best.k (g.S.WithClones.class_of best.search) other c.requires.branch c.clones-clones.ensures.table c.clones-clones.ensures.rise c.clones-clones.ensures.classes rises here whole in
-        absurd (let e : true ≡ false = sym suits ∙ c.if-suits.false in cc)
+        c.suits.ensures c.if-suits.false m best.k (g.S.WithClones.class_of best.search) other c.requires.branch c.clones-clones.ensures.table c.clones-clones.ensures.rise c.clones-clones.ensures.classes rises here whole
     | inr other' ↦ c.loop-i.invariant.none j (omega (arith, low, other')) other becomes whole
   ];
 }

@@ -18,7 +18,7 @@ use Rattle.tie_search.proofs.branch.Branch.suits.Goals.{then-seats-taken-via-the
 -- Of each class the committee has as many members as one that completes the branch. Those of the set are among them, and
 -- the others are free.
 pub returns-then-seats-taken : goal.returns-then-seats-taken
-returns-then-seats-taken c m k classes other is agree rise are up becomes whole =
+returns-then-seats-taken c says m k classes other is agree rise are up becomes whole =
     let branch = c.args.self.now in
     let committee = c.args.committee in
     let member = c.in-Some.member in
@@ -36,9 +36,9 @@ returns-then-seats-taken c m k classes other is agree rise are up becomes whole 
     let taken : c.len-taken.result ≡ hits class_ branch.set = c.len-taken.ensures.count ∙ ap length c.common-in-loop-member.ensures ∙ length-common class_ branch.set in
     let least = completes-least m k branch is other whole class_ in
     elim c.then-seats-taken.branch [
-      | then-seats-taken-via-then-seats-taken w ↦ absurd (omega (arith, same, seats, taken, least, w.if-seats-taken.true))
+      | then-seats-taken-via-then-seats-taken w ↦ omega (arith, same, seats, taken, least, w.if-seats-taken.true)
       | then-seats-taken-via-else-seats-taken+then-seats-taken-2 w ↦
-          absurd (omega (
+          omega (
             arith,
             same,
             seats,
@@ -48,7 +48,7 @@ returns-then-seats-taken c m k classes other is agree rise are up becomes whole 
             length-common class_ branch.free,
             completes-most m k branch is other whole class_,
             w.if-seats-taken-2.true,
-          ))
+          )
     ]
 
 pub loop-member-init : goal.loop-member-init
