@@ -10,6 +10,7 @@ ghost use Rattle.ballot_base.specs.Limits.{most_candidates};
 ghost use Rattle.ballot_base.specs.Lists.{IsIncreasing};
 ghost use Rattle.tie_walk.specs.Ceilings.{IsBound};
 ghost use Rattle.tie_walk.specs.Winners.{best_value};
+ghost use Rattle.tie_search.specs.Tied.{AreBest};
 ghost use Rattle.tie_search.specs.Steps.Branches.{IsAnswerIn, IsBestIn, IsBranchIn, IsGuessIn, KnowsBest};
 
 use crate::branch::Branch;
@@ -30,28 +31,6 @@ pub(crate) struct Best<S: Searchable> {
 }
 
 impl<S: Searchable> Best<S> {
-    /// Finds the highest value of a committee of `k` by search. It takes no memory.
-    pub(crate) fn of(search: S, k: u8) -> Best<S>
-        requires some { 1 ≤ k }
-        requires fits { k ≤ S.candidates search }
-        ensures knows { KnowsBest S.value_of S.class_of S.candidates result }
-        ensures search { result.search ≡ search }
-        ensures k { result.k ≡ k }
-    {
-        let m = search.m();
-        let tied = match search.tied(k) {
-            Some(tied) => tied,
-            None => Tied::one(best_committee(&search, k)),
-        };
-        Best {
-            value: search.value(tied.committees[0]),
-            search,
-            m,
-            k,
-            tied,
-        }
-    }
-
     /// Asks for a committee with the highest value that completes the branch; `found` is any with this value. A search
     /// is made, and `asked` counts it, only if nothing cheaper decides.
     pub(crate) fn ask(&self, branch: &Branch, found: CandSet, asked: &mut u128) -> Option<CandSet>
@@ -110,6 +89,19 @@ impl<S: Searchable> Best<S> {
             }
         }
         None
+    }
+}
+
+/// Some committees of `k` with the highest value, found by search. It takes no memory.
+pub(crate) fn best_committees<S: Searchable>(search: &S, k: u8) -> Tied
+    requires some { 1 ≤ k }
+    requires fits { k ≤ S.candidates search.now }
+    requires most { k ≤ most_candidates }
+    ensures { AreBest (S.value_of search.now) (S.class_of search.now) (S.candidates search.now) k result }
+{
+    match search.tied(k) {
+        Some(tied) => tied,
+        None => Tied::one(best_committee(search, k)),
     }
 }
 

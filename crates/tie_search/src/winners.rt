@@ -10,7 +10,7 @@ ghost use Rattle.tie_search.specs.Asked.{Asked, IsNextAsked, beginnings};
 ghost use Rattle.tie_search.specs.Steps.Branches.{IsListing, left_by};
 
 use crate::asking::{Asking, first_branches};
-use crate::best::Best;
+use crate::best::{Best, best_committees};
 use crate::searchable::Searchable;
 use ballot_base::CandSet;
 use std::marker::Model;
@@ -55,15 +55,23 @@ impl<S: Searchable> SearchWinners<S> {
         ensures entered { result.entered ≡ 0 }
         ensures questions { result.questions ≡ 0 }
     {
-        let best = Best::of(search, k);
+        let m = search.m();
+        let tied = best_committees(&search, k);
+        let found = tied.committees[0];
         SearchWinners {
             asking: Asking {
-                branches: first_branches(&after, best.m),
-                found: best.tied.committees[0],
+                branches: first_branches(&after, m),
+                found,
                 entered: 0,
                 asked: 0,
             },
-            best,
+            best: Best {
+                value: search.value(found),
+                search,
+                m,
+                k,
+                tied,
+            },
             after,
         }
     }

@@ -1,45 +1,47 @@
 use Rattle.std.proofs.lemmas.List.{get_or_default}
-use Rattle.std.proofs.Common.{◌≡◌, rules, [], arith, get_or, length, ℕ, List, Option, None, Some, ap, refl, ◌∙◌}
-use Rattle.std.specs.Prelude.{MatchOption, ⊤}
-use Rattle.ballot_base.specs.Lists.{IsIncreasing}
-use Rattle.tie_walk.specs.Winners.{IsStart}
+use Rattle.std.proofs.Common.{◌≡◌, rules, [], arith, get_or, length, refl, ◌∙◌, ap}
+use Rattle.tie_search.specs.Tied.{IsBest}
 use Rattle.tie_search.specs.Steps.Branches.{IsBegun, first_branches}
+use Rattle.tie_search.specs.Steps.Searched.{IsSearched}
 use Rattle.tie_search.specs.declared.asking.Asking.{Asking}
 use Rattle.tie_search.proofs.StartLemmas.{begun-from}
 use Rattle.tie_search.proofs.winners.SearchWinners.new.Given.{Over}
 use Rattle.tie_search.proofs.winners.SearchWinners.new.Goals as goal
-use Rattle.tie_search.proofs.winners.SearchWinners.new.Goals.{After-index-best-0}
+use Rattle.tie_search.proofs.winners.SearchWinners.new.Goals.{After-value}
 
--- a start is a committee
-rises : (m k : ℕ) (after : Option (List ℕ)) → IsStart m k after → MatchOption after ⊤ (IsIncreasing 1 m)
-rises m k None is = tt
-rises m k (Some set) is = is.0
-
-pub first_branches-requires-clause-start : goal.first_branches-requires-clause-start
-first_branches-requires-clause-start g c =
-    let best = c.of-best.result in
-    rises best.m best.k c.args.after (rw (c.of-best.ensures.knows.size, c.of-best.ensures.search, c.of-best.ensures.k) c.requires.start)
+first-is : (g : Over) (c : After-value g) → IsBest (g.S.Tally.value_of c.args.search) (g.S.Tally.candidates c.args.search) c.args.k (get_or c.best_committees-tied.result.committees 0 c.index-tied-0.result)
+first-is g c =
+    let tied = c.best_committees-tied in
+    let committees = tied.result.committees in
+    let first = get_or committees 0 c.index-tied-0.result in
+    let long : length committees ≡ 256 = search rules in
+    tied.ensures.each first (0, omega (arith, tied.ensures.some), get_or_default committees 0 [] c.index-tied-0.result (omega (arith, long)))
 
 -- nothing was asked yet
-asking : (g : Over) (c : After-index-best-0 g) → Asking
-asking g c = record { branches = c.first_branches.result; found = get_or c.of-best.result.tied.committees 0 c.index-best-0.result; entered = 0; asked = 0 }
+asking : (g : Over) (c : After-value g) → Asking
+asking g c = record { branches = c.first_branches.result; found = get_or c.best_committees-tied.result.committees 0 c.index-tied-0.result; entered = 0; asked = 0 }
 
-is-begun : (g : Over) (c : After-index-best-0 g) → IsBegun (g.S.Tally.value_of c.of-best.result.search) (g.S.Tally.candidates c.of-best.result.search) c.of-best.result.k c.args.after (asking g c)
+is-begun : (g : Over) (c : After-value g) → IsBegun (g.S.Tally.value_of c.args.search) (g.S.Tally.candidates c.args.search) c.args.k c.args.after (asking g c)
 unfolding asking
 is-begun g c =
-    let best = c.of-best.result in
-    let knows = c.of-best.ensures.knows in
-    let committees = best.tied.committees in
-    let first = get_or committees 0 c.index-best-0.result in
-    let long : length committees ≡ 256 = search rules in
-    begun-from (g.S.Tally.value_of best.search) (g.S.Tally.candidates best.search) best.k c.args.after (asking g c) knows.some knows.fits knows.most
-    (rw (c.of-best.ensures.search, c.of-best.ensures.k) c.requires.start) (c.first_branches.ensures ∙ ap (λ m. first_branches m c.args.after) knows.size) refl refl
-    (knows.listed.each first (0, omega (arith, knows.listed.some), get_or_default committees 0 [] c.index-best-0.result (omega (arith, long))))
+    let few = rw c.m-m.ensures.value at c.m-m.ensures.most in
+    begun-from (g.S.Tally.value_of c.args.search) (g.S.Tally.candidates c.args.search) c.args.k c.args.after (asking g c) c.requires.some c.requires.fits few c.requires.start
+    (c.first_branches.ensures ∙ ap (λ m. first_branches m c.args.after) c.m-m.ensures.value) refl refl (first-is g c)
 
 pub invariant_of-result : goal.invariant_of-result
 unfolding asking
-invariant_of-result g c = let is = is-begun g c in record { knows = c.of-best.ensures.knows; asking_is = is.asking_is; counted = is.counted }
+invariant_of-result g c =
+    let is = is-begun g c in
+    let knows : IsSearched (g.S.Tally.value_of c.args.search) (g.S.WithClones.class_of c.args.search) (g.S.Tally.candidates c.args.search) c.m-m.result c.args.k c.value.result c.best_committees-tied.result = record {
+      size = c.m-m.ensures.value;
+      most = rw c.m-m.ensures.value at c.m-m.ensures.most;
+      some = c.requires.some;
+      fits = c.requires.fits;
+      best_is = c.value.ensures ∙ (first-is g c).best;
+      listed = c.best_committees-tied.ensures;
+    } in
+    record { knows = knows; asking_is = is.asking_is; counted = is.counted }
 
 pub returns-clause-left : goal.returns-clause-left
 unfolding asking
-returns-clause-left g c = rw (← c.of-best.ensures.search, ← c.of-best.ensures.k) (is-begun g c).left
+returns-clause-left g c = (is-begun g c).left
