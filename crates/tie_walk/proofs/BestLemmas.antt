@@ -1,19 +1,21 @@
 -- From a good committee on to the greatest value.
 use Rattle.std.proofs.lemmas.Grind.{common_steps}
-use Rattle.std.proofs.Common.{◌≡◌, ℕ, ◌+◌, ◌-◌, ◌<◌, ◌≤◌, ◌∙◌, true, false, List, [], ◌∷◌, ◌++◌, Option, None, Some, sym, subst, arith, inl, inr, length, map, unwrap_or}
-use Rattle.std.specs.Prelude.{nat_le}
-use Rattle.std.specs.List.{AllByRecursion}
-use Rattle.std.proofs.lemmas.Bool.{cases_Bool, cases_eq, cases_lt, false≢true, leb-true}
+use Rattle.std.proofs.Common.{◌≡◌, ℕ, ◌+◌, ◌-◌, ◌<◌, ◌≤◌, ◌∙◌, ◌⊎◌, true, false, List, [], ◌∷◌, ◌++◌, Option, None, Some, sym, ap, subst, arith, inl, inr, length, map}
+use Rattle.std.specs.Prelude.{nat_le, not}
+use Rattle.std.specs.List.{AllByRecursion, range_with_len}
+use Rattle.std.proofs.lemmas.Bool.{and_from, and_parts, cases_Bool, cases_eq, cases_lt, false≢true, leb-true}
 use Rattle.ballot_base.specs.Lists.{IsIncreasing, increasing_lists}
-use Rattle.ballot_base.specs.CandSet.{has_member, with_member}
+use Rattle.ballot_base.specs.CandSet.{has_member, other_members, with_member}
 use Rattle.ballot_base.proofs.Committees.{IsChosen, increasing_lists-chosen, increasing_lists-contains}
-use Rattle.ballot_base.proofs.Increasing.{IsIncreasing-higher, IsIncreasing-lower, IsIncreasing-push, IsIncreasing-with_member, has_member-below, has_member_tail, length-with_member}
+use Rattle.ballot_base.proofs.Increasing.{IsIncreasing-higher, IsIncreasing-lower, IsIncreasing-push, IsIncreasing-with_member, has_member-above, has_member-below, has_member-filter, has_member_tail, length-with_member}
 use Rattle.ballot_base.proofs.ListLemmas.{AllByRecursion-append}
 use Rattle.tie_walk.specs.Ceilings.{IsBound}
 use Rattle.tie_walk.specs.Steps.Walks.{committees_below, committees_after, committees_from, IsPlace, those_reaching}
 use Rattle.tie_walk.specs.declared.walk.Prefix.{Prefix}
 use Rattle.tie_walk.specs.Winners.{best_value}
 use Rattle.tie_walk.proofs.WalkLemmas.{below-bounded, from-root}
+use Rattle.tie_walk.proofs.LawLemmas.{IsIncreasing-range}
+use Rattle.tie_walk.proofs.StepLemmas.{has_member-range}
 use Rattle.tie_walk.proofs.WinnersLemmas.{greatest, greatest-low, greatest-most, greatest-next, greatest-first}
 
 -- ---- the committees from a place on
@@ -100,24 +102,44 @@ all-members first last (x ∷ set) up all = elim (cases_eq first x) [
       absurd (false≢true (sym out ∙ all first (omega arith) (omega (arith, up.0, up.1))))
 ]
 
--- the set with one candidate more that was found among those before n, if there was one
-abbrev pub IsOneMore : ℕ → List ℕ → ℕ → ℕ → Option (List ℕ) → Type 0
-IsOneMore m set n best None = (best ≡ 0) × ((x : ℕ) → 1 ≤ x → x < n → has_member set x ≡ true)
-IsOneMore m set n best (Some more) = IsIncreasing 1 m more × (length more ≡ length set + 1)
+-- who is among the others
+pub other-is : (m n : ℕ) (set : List ℕ) → has_member (other_members (range_with_len 1 m) set) n ≡ true → (1 ≤ n) × (n ≤ m) × (has_member set n ≡ false)
+other-is m n set is =
+    let range = range_with_len 1 m in
+    let parts = and_parts (not (has_member set n)) (has_member range n) (sym (has_member-filter (λ x. not (has_member set x)) range n) ∙ is) in
+    let out : (has_member range n ≡ false) → ⊥ = λ e. false≢true (sym e ∙ parts.1) in (
+      elim (cases_lt n 1) [ inl low ↦ absurd (out (has_member-below 1 m range n (IsIncreasing-range 1 m m (omega arith)) low)) | inr some ↦ some ],
+      elim (cases_lt m n) [ inl high ↦ absurd (out (has_member-above 1 m range n (IsIncreasing-range 1 m m (omega arith)) high)) | inr within ↦ within ],
+      elim (cases_Bool (has_member set n)) [ inl inside ↦ absurd (false≢true (sym (ap not inside) ∙ parts.0)) | inr outside ↦ outside ],
+    )
 
-pub one-more-member : (m : ℕ) (set : List ℕ) (n best : ℕ) (grown : Option (List ℕ)) → has_member set n ≡ true → IsOneMore m set n best grown → IsOneMore m set (n + 1) best grown
-one-more-member m set n best None inside is = grind (arith, common_steps, cases_eq)
-one-more-member m set n best (Some more) inside is = is
+-- there are others where there is room
+others-some : (m : ℕ) (set : List ℕ) → IsIncreasing 1 m set → length set < m → other_members (range_with_len 1 m) set ≡ [] → ⊥
+others-some m set up room none =
+    let all = all-members 1 m set up (λ n low high. elim (cases_Bool (has_member set n)) [
+      | inl inside ↦ inside
+      | inr outside ↦
+          let range = range_with_len 1 m in
+          let is = has_member-filter (λ x. not (has_member set x)) range n ∙ and_from (not (has_member set n)) (has_member range n) (ap not outside) (has_member-range 1 m n low (omega (arith, high))) in
+          absurd (false≢true (sym (ap (λ l. has_member l n) none) ∙ is))
+    ]) in
+    omega (arith, all, room)
 
-pub one-more-kept : (m : ℕ) (set : List ℕ) (n best value : ℕ) (grown : Option (List ℕ)) → value < best → IsOneMore m set n best grown → IsOneMore m set (n + 1) best grown
-one-more-kept m set n best value None low is = absurd (omega (arith, low, is.0))
-one-more-kept m set n best value (Some more) low is = is
+-- the set with one candidate more, unless all others are left
+abbrev pub IsOneMore : ℕ → List ℕ → ℕ → List ℕ → List ℕ → Type 0
+IsOneMore m set best grown left = (IsIncreasing 1 m grown × (length grown ≡ length set + 1)) ⊎ ((best ≡ 0) × (left ≡ other_members (range_with_len 1 m) set))
 
-pub one-more-found : (m : ℕ) (set : List ℕ) (n best : ℕ) (more : List ℕ) → IsIncreasing 1 m set → 1 ≤ n → n ≤ m → has_member set n ≡ false → more ≡ with_member set n → IsOneMore m set (n + 1) best (Some more)
-one-more-found m set n best more up low high outside is =
-    grind (arith, common_steps, IsIncreasing-with_member, length-with_member)
+pub one-more-kept : (m : ℕ) (set : List ℕ) (best value : ℕ) (grown left rest : List ℕ) → value < best → IsOneMore m set best grown left → IsOneMore m set best grown rest
+one-more-kept m set best value grown left rest low (inl more) = inl more
+one-more-kept m set best value grown left rest low (inr none) = absurd (omega (arith, low, none.0))
 
-pub one-more-done : (m : ℕ) (set : List ℕ) (best : ℕ) (grown : Option (List ℕ)) → IsIncreasing 1 m set → length set < m → IsOneMore m set (m + 1) best grown
-    → IsIncreasing 1 m (unwrap_or grown set) × (length (unwrap_or grown set) ≡ length set + 1)
-one-more-done m set best None up room is = absurd (omega (arith, room, all-members 1 m set up (λ n low high. is.1 n low (omega (arith, high)))))
-one-more-done m set best (Some more) up room is = is
+pub one-more-found : (m : ℕ) (set : List ℕ) (n best : ℕ) (more rest : List ℕ) → IsIncreasing 1 m set → has_member (other_members (range_with_len 1 m) set) n ≡ true → more ≡ with_member set n
+    → IsOneMore m set best more rest
+one-more-found m set n best more rest up other is =
+    let who = other-is m n set other in
+    inl (grind (arith, common_steps, IsIncreasing-with_member, length-with_member))
+
+pub one-more-done : (m : ℕ) (set : List ℕ) (best : ℕ) (grown : List ℕ) → IsIncreasing 1 m set → length set < m → IsOneMore m set best grown []
+    → IsIncreasing 1 m grown × (length grown ≡ length set + 1)
+one-more-done m set best grown up room (inl more) = more
+one-more-done m set best grown up room (inr none) = absurd (others-some m set up room (sym none.1))
