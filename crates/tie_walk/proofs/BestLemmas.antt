@@ -1,13 +1,14 @@
 -- From a good committee on to the greatest value.
 use Rattle.std.proofs.lemmas.Grind.{common_steps}
-use Rattle.std.proofs.Common.{◌≡◌, ℕ, ◌+◌, ◌-◌, ◌<◌, ◌≤◌, ◌∙◌, ◌⊎◌, true, false, List, [], ◌∷◌, ◌++◌, Option, None, Some, sym, ap, subst, arith, inl, inr, length, map}
+use Rattle.std.proofs.Common.{◌≡◌, ℕ, ◌+◌, ◌-◌, ◌<◌, ◌≤◌, ◌∙◌, ◌⊎◌, true, false, List, [], ◌∷◌, ◌++◌, Option, None, Some, refl, sym, refl, ap, subst, arith, inl, inr, length, map}
 use Rattle.std.specs.Prelude.{nat_le, not}
 use Rattle.std.specs.List.{AllByRecursion, range_with_len}
-use Rattle.std.proofs.lemmas.Bool.{and_from, and_parts, cases_Bool, cases_eq, cases_lt, false≢true, leb-true}
+use Rattle.std.proofs.lemmas.List.Elements.{filter_passes, recursion_from_All}
+use Rattle.std.proofs.lemmas.Bool.{and_from, cases_Bool, cases_eq, cases_lt, false≢true, leb-true}
 use Rattle.ballot_base.specs.Lists.{IsIncreasing, increasing_lists}
 use Rattle.ballot_base.specs.CandSet.{has_member, other_members, with_member}
 use Rattle.ballot_base.proofs.Committees.{IsChosen, increasing_lists-chosen, increasing_lists-contains}
-use Rattle.ballot_base.proofs.Increasing.{IsIncreasing-higher, IsIncreasing-lower, IsIncreasing-push, IsIncreasing-with_member, has_member-above, has_member-below, has_member-filter, has_member_tail, length-with_member}
+use Rattle.ballot_base.proofs.Increasing.{IsIncreasing-higher, IsIncreasing-lower, IsIncreasing-push, IsIncreasing-filter, IsIncreasing-with_member, has_member-below, has_member-filter, has_member_tail, length-with_member}
 use Rattle.ballot_base.proofs.ListLemmas.{AllByRecursion-append}
 use Rattle.tie_walk.specs.Ceilings.{IsBound}
 use Rattle.tie_walk.specs.Steps.Walks.{committees_below, committees_after, committees_from, IsPlace, those_reaching}
@@ -102,17 +103,6 @@ all-members first last (x ∷ set) up all = elim (cases_eq first x) [
       absurd (false≢true (sym out ∙ all first (omega arith) (omega (arith, up.0, up.1))))
 ]
 
--- who is among the others
-pub other-is : (m n : ℕ) (set : List ℕ) → has_member (other_members (range_with_len 1 m) set) n ≡ true → (1 ≤ n) × (n ≤ m) × (has_member set n ≡ false)
-other-is m n set is =
-    let range = range_with_len 1 m in
-    let parts = and_parts (not (has_member set n)) (has_member range n) (sym (has_member-filter (λ x. not (has_member set x)) range n) ∙ is) in
-    let out : (has_member range n ≡ false) → ⊥ = λ e. false≢true (sym e ∙ parts.1) in (
-      elim (cases_lt n 1) [ inl low ↦ absurd (out (has_member-below 1 m range n (IsIncreasing-range 1 m m (omega arith)) low)) | inr some ↦ some ],
-      elim (cases_lt m n) [ inl high ↦ absurd (out (has_member-above 1 m range n (IsIncreasing-range 1 m m (omega arith)) high)) | inr within ↦ within ],
-      elim (cases_Bool (has_member set n)) [ inl inside ↦ absurd (false≢true (sym (ap not inside) ∙ parts.0)) | inr outside ↦ outside ],
-    )
-
 -- there are others where there is room
 others-some : (m : ℕ) (set : List ℕ) → IsIncreasing 1 m set → length set < m → other_members (range_with_len 1 m) set ≡ [] → ⊥
 others-some m set up room none =
@@ -125,21 +115,43 @@ others-some m set up room none =
     ]) in
     omega (arith, all, room)
 
--- the set with one candidate more, unless all others are left
-abbrev pub IsOneMore : ℕ → List ℕ → ℕ → List ℕ → List ℕ → Type 0
-IsOneMore m set best grown left = (IsIncreasing 1 m grown × (length grown ≡ length set + 1)) ⊎ ((best ≡ 0) × (left ≡ other_members (range_with_len 1 m) set))
+-- the others that are left, and the set with one candidate more, unless all others are left
+pub record IsGrowing (m : ℕ) (set : List ℕ) (best : ℕ) (grown left : List ℕ) : Type 0 where
+  pub rises : IsIncreasing 1 m left
+  pub others : AllByRecursion (λ n. not (has_member set n) ≡ true) left
+  pub more : (IsIncreasing 1 m grown × (length grown ≡ length set + 1)) ⊎ ((best ≡ 0) × (left ≡ other_members (range_with_len 1 m) set))
 
-pub one-more-kept : (m : ℕ) (set : List ℕ) (best value : ℕ) (grown left rest : List ℕ) → value < best → IsOneMore m set best grown left → IsOneMore m set best grown rest
-one-more-kept m set best value grown left rest low (inl more) = inl more
-one-more-kept m set best value grown left rest low (inr none) = absurd (omega (arith, low, none.0))
+pub growing-begun : (m : ℕ) (set grown : List ℕ) → IsGrowing m set 0 grown (other_members (range_with_len 1 m) set)
+growing-begun m set grown =
+    let test = λ (n : ℕ). not (has_member set n) in
+    record {
+      rises = IsIncreasing-filter test 1 m (range_with_len 1 m) (IsIncreasing-range 1 m m (omega arith));
+      others = recursion_from_All (λ n. test n ≡ true) (other_members (range_with_len 1 m) set) (filter_passes test (range_with_len 1 m));
+      more = inr (refl, refl);
+    }
 
-pub one-more-found : (m : ℕ) (set : List ℕ) (n best : ℕ) (more rest : List ℕ) → IsIncreasing 1 m set → has_member (other_members (range_with_len 1 m) set) n ≡ true → more ≡ with_member set n
-    → IsOneMore m set best more rest
-one-more-found m set n best more rest up other is =
-    let who = other-is m n set other in
-    inl (grind (arith, common_steps, IsIncreasing-with_member, length-with_member))
+pub growing-kept : (m : ℕ) (set : List ℕ) (best value n : ℕ) (grown left rest : List ℕ) → left ≡ n ∷ rest → value < best → IsGrowing m set best grown left → IsGrowing m set best grown rest
+growing-kept m set best value n grown left rest is low was =
+    let next : IsGrowing m set best grown (n ∷ rest) = subst (IsGrowing m set best grown) is was in
+    record {
+      rises = IsIncreasing-lower 1 (n + 1) m rest (omega arith) next.rises.2;
+      others = next.others.1;
+      more = elim next.more [ inl more ↦ inl more | inr none ↦ absurd (omega (arith, low, none.0)) ];
+    }
 
-pub one-more-done : (m : ℕ) (set : List ℕ) (best : ℕ) (grown : List ℕ) → IsIncreasing 1 m set → length set < m → IsOneMore m set best grown []
+pub growing-found : (m : ℕ) (set : List ℕ) (best old n : ℕ) (more grown left rest : List ℕ) → left ≡ n ∷ rest → IsIncreasing 1 m set → more ≡ with_member set n
+    → IsGrowing m set old grown left → IsGrowing m set best more rest
+growing-found m set best old n more grown left rest is up found was =
+    let next : IsGrowing m set old grown (n ∷ rest) = subst (IsGrowing m set old grown) is was in
+    record {
+      rises = IsIncreasing-lower 1 (n + 1) m rest (omega arith) next.rises.2;
+      others = next.others.1;
+      more = inl (grind (arith, common_steps, IsIncreasing-with_member, length-with_member, cases_Bool, next));
+    }
+
+pub growing-done : (m : ℕ) (set : List ℕ) (best : ℕ) (grown left : List ℕ) → IsIncreasing 1 m set → length set < m → left ≡ [] → IsGrowing m set best grown left
     → IsIncreasing 1 m grown × (length grown ≡ length set + 1)
-one-more-done m set best grown up room (inl more) = more
-one-more-done m set best grown up room (inr none) = absurd (others-some m set up room (sym none.1))
+growing-done m set best grown left up room none was = elim was.more [
+  | inl more ↦ more
+  | inr all ↦ absurd (others-some m set up room (sym all.1 ∙ none))
+]
