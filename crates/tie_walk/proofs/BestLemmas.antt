@@ -1,19 +1,22 @@
 -- From a good committee on to the greatest value.
 use Rattle.std.proofs.lemmas.Grind.{common_steps}
-use Rattle.std.proofs.Common.{◌≡◌, ℕ, ◌+◌, ◌-◌, ◌<◌, ◌≤◌, ◌∙◌, true, false, List, [], ◌∷◌, ◌++◌, Option, None, Some, sym, subst, arith, inl, inr, length, map, unwrap_or}
-use Rattle.std.specs.Prelude.{nat_le}
-use Rattle.std.specs.List.{AllByRecursion}
-use Rattle.std.proofs.lemmas.Bool.{cases_Bool, cases_eq, cases_lt, false≢true, leb-true}
+use Rattle.std.proofs.Common.{◌≡◌, ℕ, ◌+◌, ◌-◌, ◌<◌, ◌≤◌, ◌∙◌, ◌⊎◌, true, false, List, [], ◌∷◌, ◌++◌, Option, None, Some, refl, sym, ap, subst, arith, inl, inr, length, map}
+use Rattle.std.specs.Prelude.{nat_le, not}
+use Rattle.std.specs.List.{AllByRecursion, range_with_len}
+use Rattle.std.proofs.lemmas.List.Elements.{filter_passes, recursion_from_All}
+use Rattle.std.proofs.lemmas.Bool.{and_from, cases_Bool, cases_eq, cases_lt, false≢true, leb-true}
 use Rattle.ballot_base.specs.Lists.{IsIncreasing, increasing_lists}
-use Rattle.ballot_base.specs.CandSet.{has_member, with_member}
+use Rattle.ballot_base.specs.CandSet.{has_member, other_members, with_member}
 use Rattle.ballot_base.proofs.Committees.{IsChosen, increasing_lists-chosen, increasing_lists-contains}
-use Rattle.ballot_base.proofs.Increasing.{IsIncreasing-higher, IsIncreasing-lower, IsIncreasing-push, IsIncreasing-with_member, has_member-below, has_member_tail, length-with_member}
+use Rattle.ballot_base.proofs.Increasing.{IsIncreasing-higher, IsIncreasing-lower, IsIncreasing-push, IsIncreasing-filter, IsIncreasing-with_member, has_member-below, has_member-filter, has_member_tail, length-with_member}
 use Rattle.ballot_base.proofs.ListLemmas.{AllByRecursion-append}
 use Rattle.tie_walk.specs.Ceilings.{IsBound}
 use Rattle.tie_walk.specs.Steps.Walks.{committees_below, committees_after, committees_from, IsPlace, those_reaching}
 use Rattle.tie_walk.specs.declared.walk.Prefix.{Prefix}
 use Rattle.tie_walk.specs.Winners.{best_value}
 use Rattle.tie_walk.proofs.WalkLemmas.{below-bounded, from-root}
+use Rattle.tie_walk.proofs.LawLemmas.{IsIncreasing-range}
+use Rattle.tie_walk.proofs.StepLemmas.{has_member-range}
 use Rattle.tie_walk.proofs.WinnersLemmas.{greatest, greatest-low, greatest-most, greatest-next, greatest-first}
 
 -- ---- the committees from a place on
@@ -100,24 +103,55 @@ all-members first last (x ∷ set) up all = elim (cases_eq first x) [
       absurd (false≢true (sym out ∙ all first (omega arith) (omega (arith, up.0, up.1))))
 ]
 
--- the set with one candidate more that was found among those before n, if there was one
-abbrev pub IsOneMore : ℕ → List ℕ → ℕ → ℕ → Option (List ℕ) → Type 0
-IsOneMore m set n best None = (best ≡ 0) × ((x : ℕ) → 1 ≤ x → x < n → has_member set x ≡ true)
-IsOneMore m set n best (Some more) = IsIncreasing 1 m more × (length more ≡ length set + 1)
+-- there are others where there is room
+others-some : (m : ℕ) (set : List ℕ) → IsIncreasing 1 m set → length set < m → other_members (range_with_len 1 m) set ≡ [] → ⊥
+others-some m set up room none =
+    let all = all-members 1 m set up (λ n low high. elim (cases_Bool (has_member set n)) [
+      | inl inside ↦ inside
+      | inr outside ↦
+          let range = range_with_len 1 m in
+          let is = has_member-filter (λ x. not (has_member set x)) range n ∙ and_from (not (has_member set n)) (has_member range n) (ap not outside) (has_member-range 1 m n low (omega (arith, high))) in
+          absurd (false≢true (sym (ap (λ l. has_member l n) none) ∙ is))
+    ]) in
+    omega (arith, all, room)
 
-pub one-more-member : (m : ℕ) (set : List ℕ) (n best : ℕ) (grown : Option (List ℕ)) → has_member set n ≡ true → IsOneMore m set n best grown → IsOneMore m set (n + 1) best grown
-one-more-member m set n best None inside is = grind (arith, common_steps, cases_eq)
-one-more-member m set n best (Some more) inside is = is
+-- the others that are left, and the set with one candidate more, unless all others are left
+pub record IsGrowing (m : ℕ) (set : List ℕ) (best : ℕ) (grown left : List ℕ) : Type 0 where
+  pub rises : IsIncreasing 1 m left
+  pub others : AllByRecursion (λ n. not (has_member set n) ≡ true) left
+  pub more : (IsIncreasing 1 m grown × (length grown ≡ length set + 1)) ⊎ ((best ≡ 0) × (left ≡ other_members (range_with_len 1 m) set))
 
-pub one-more-kept : (m : ℕ) (set : List ℕ) (n best value : ℕ) (grown : Option (List ℕ)) → value < best → IsOneMore m set n best grown → IsOneMore m set (n + 1) best grown
-one-more-kept m set n best value None low is = absurd (omega (arith, low, is.0))
-one-more-kept m set n best value (Some more) low is = is
+pub growing-begun : (m : ℕ) (set grown : List ℕ) → IsGrowing m set 0 grown (other_members (range_with_len 1 m) set)
+growing-begun m set grown =
+    let test = λ (n : ℕ). not (has_member set n) in
+    record {
+      rises = IsIncreasing-filter test 1 m (range_with_len 1 m) (IsIncreasing-range 1 m m (omega arith));
+      others = recursion_from_All (λ n. test n ≡ true) (other_members (range_with_len 1 m) set) (filter_passes test (range_with_len 1 m));
+      more = inr (refl, refl);
+    }
 
-pub one-more-found : (m : ℕ) (set : List ℕ) (n best : ℕ) (more : List ℕ) → IsIncreasing 1 m set → 1 ≤ n → n ≤ m → has_member set n ≡ false → more ≡ with_member set n → IsOneMore m set (n + 1) best (Some more)
-one-more-found m set n best more up low high outside is =
-    grind (arith, common_steps, IsIncreasing-with_member, length-with_member)
+pub growing-kept : (m : ℕ) (set : List ℕ) (best value n : ℕ) (grown left rest : List ℕ) → left ≡ n ∷ rest → value < best → IsGrowing m set best grown left → IsGrowing m set best grown rest
+growing-kept m set best value n grown left rest is low was =
+    let next : IsGrowing m set best grown (n ∷ rest) = subst (IsGrowing m set best grown) is was in
+    record {
+      rises = IsIncreasing-lower 1 (n + 1) m rest (omega arith) next.rises.2;
+      others = next.others.1;
+      more = elim next.more [ inl more ↦ inl more | inr none ↦ absurd (omega (arith, low, none.0)) ];
+    }
 
-pub one-more-done : (m : ℕ) (set : List ℕ) (best : ℕ) (grown : Option (List ℕ)) → IsIncreasing 1 m set → length set < m → IsOneMore m set (m + 1) best grown
-    → IsIncreasing 1 m (unwrap_or grown set) × (length (unwrap_or grown set) ≡ length set + 1)
-one-more-done m set best None up room is = absurd (omega (arith, room, all-members 1 m set up (λ n low high. is.1 n low (omega (arith, high)))))
-one-more-done m set best (Some more) up room is = is
+pub growing-found : (m : ℕ) (set : List ℕ) (best old n : ℕ) (more grown left rest : List ℕ) → left ≡ n ∷ rest → IsIncreasing 1 m set → more ≡ with_member set n
+    → IsGrowing m set old grown left → IsGrowing m set best more rest
+growing-found m set best old n more grown left rest is up found was =
+    let next : IsGrowing m set old grown (n ∷ rest) = subst (IsGrowing m set old grown) is was in
+    record {
+      rises = IsIncreasing-lower 1 (n + 1) m rest (omega arith) next.rises.2;
+      others = next.others.1;
+      more = inl (grind (arith, common_steps, IsIncreasing-with_member, length-with_member, cases_Bool, next));
+    }
+
+pub growing-done : (m : ℕ) (set : List ℕ) (best : ℕ) (grown left : List ℕ) → IsIncreasing 1 m set → length set < m → left ≡ [] → IsGrowing m set best grown left
+    → IsIncreasing 1 m grown × (length grown ≡ length set + 1)
+growing-done m set best grown left up room none was = elim was.more [
+  | inl more ↦ more
+  | inr all ↦ absurd (others-some m set up room (sym all.1 ∙ none))
+]

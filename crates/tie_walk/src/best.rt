@@ -48,16 +48,14 @@ fn with_best<T: Tally>(tally: &T, set: CandSet) -> CandSet
     ensures size { length result ≡ length set + 1 }
 {
     let mut best = 0;
-    let mut grown = None;
-    for n in 1..tally.m() + 1 {
-        if !set.has(n) {
-            let more = set.with(n);
-            let value = tally.value(more);
-            if value >= best {
-                best = value;
-                grown = Some(more);
-            }
+    let mut grown = set;
+    for n in CandSet::all(tally.m()).minus(set).members() {
+        let more = set.with(n);
+        let value = tally.value(more);
+        if value >= best {
+            best = value;
+            grown = more;
         }
     }
-    grown.unwrap_or(set)
+    grown
 }
