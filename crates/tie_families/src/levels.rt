@@ -34,16 +34,14 @@ pub(crate) struct Levels<'a, A: Allocator + Copy> {
 }
 
 impl<A: Allocator + Copy + Drop> Levels<'_, A> {
-    /// Those of the tied candidates who have no clone before them that may be chosen.
+    /// Those of the tied candidates who are the first of their clones: clones tie if they may be chosen.
     fn firsts(&self, set: CandSet, tied: CandSet) -> CandSet
         requires { tied ≡ tied_by self.now.choices.rule self.now.choices.profile.now set }
         ensures { result ≡ ties_by self.now.choices.rule self.now.choices.profile.now set }
     {
-        let m = self.choices.profile.m();
-        let free = self.choices.rule.step().open_candidates(m, set);
         let mut firsts = tied;
         for c in tied.members() {
-            if !self.clones.class(c).common(free).upto(c - 1).is_empty() {
+            if !self.clones.class(c).common(tied).upto(c - 1).is_empty() {
                 firsts = firsts.without(c);
             }
         }
