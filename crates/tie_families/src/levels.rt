@@ -34,7 +34,7 @@ pub(crate) struct Levels<'a, A: Allocator + Copy> {
 }
 
 impl<A: Allocator + Copy + Drop> Levels<'_, A> {
-    /// Those of the tied candidates who are the first of their clones: clones tie if they may be chosen.
+    /// The tied candidates, but of clones only the first: all of them who may be chosen tie.
     fn firsts(&self, set: CandSet, tied: CandSet) -> CandSet
         requires { tied ≡ tied_by self.now.choices.rule self.now.choices.profile.now set }
         ensures { result ≡ ties_by self.now.choices.rule self.now.choices.profile.now set }
@@ -105,19 +105,18 @@ impl<A: Allocator + Copy + Drop> Levels<'_, A> {
         in_order(alloc, &found)
     }
 
-    /// The level after this many choices.
+    /// Level `size`: the families that this many choices make.
     pub(crate) fn reached_families(
         &self,
         alloc: A,
-        choices: u8,
+        size: u8,
     ) -> Result<Vec<CandSet, A>, AllocError>
-        requires { choices ≤ self.now.choices.profile.now.m }
-        ensures { IfOk result (λ sets. AreReached
-            self.now.choices.rule self.now.choices.profile.now choices sets.items) }
+        requires { size ≤ self.now.choices.profile.now.m }
+        ensures { IfOk result (λ sets. AreReached self.now.choices.rule self.now.choices.profile.now size sets.items) }
     {
         let start = self.choices.rule.step().start(self.choices.profile.m());
         let mut level = vec![in alloc; start]?;
-        for done in 0..choices {
+        for done in 0..size {
             level = self.next_level(alloc, done, &level)?;
         }
         Ok(level)

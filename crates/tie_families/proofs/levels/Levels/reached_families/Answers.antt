@@ -35,5 +35,5 @@ pub returns : goal.returns
 returns g c =
     let e = c.args.self.now.choices.profile.now in
     let rule = c.args.self.now.choices.rule in
-    let all : c.loop-done.done ≡ c.args.choices = omega arith in
+    let all : c.loop-done.done ≡ c.args.size = omega arith in
     subst (λ n. IsFamilyLevel (step_of rule) (hit_weights rule e.m) e.m e.rows n c.loop-done.level.items) all c.loop-done.invariant
