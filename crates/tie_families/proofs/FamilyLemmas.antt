@@ -202,6 +202,6 @@ level-families rule e k fits ballots sets level =
 
 -- the same, by other names for the parts of the level
 pub last-families : (rule rule' : SeqRule) (e e' : Election) (k size : ℕ) (step : Step) (sets ends : List (List ℕ)) → rule' ≡ rule → e' ≡ e → k ≤ e.m → AreBallots e.m e.rows → step ≡ step_of rule → size ≡ choices_of rule e.m k
-    → AreReached rule' e' size sets → ends ≡ map (other_end_by rule' e' k) sets → AreFamilies rule e k (leasts_of step sets ends) (mosts_of step sets ends)
+    → AreReached rule' e' size sets → ends ≡ map (other_end_by rule e k) sets → AreFamilies rule e k (leasts_of step sets ends) (mosts_of step sets ends)
 last-families rule rule' e e' k size step sets ends same same' fits ballots by many level ends-are =
-    rw (ends-are, same, same', by) (level-families rule e k fits ballots sets (rw (same, same', many) at level))
+    rw (ends-are, by) (level-families rule e k fits ballots sets (rw (same, same', many) at level))

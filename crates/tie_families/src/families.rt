@@ -63,7 +63,15 @@ impl<'a, A: Allocator + Copy + Drop> Families<'a, A> {
             clones: &clones,
         };
         let sets = levels.reached_families(alloc, rule.choices(profile.m(), k))?;
-        let ends = levels.other_ends(alloc, k, &sets)?;
+        let mut ends = Vec::with_capacity(alloc, sets.len())?;
+        for set in &sets {
+            let end = if set.len() == k {
+                None
+            } else {
+                levels.ties_and_end(*set).1
+            };
+            ends.push(end.unwrap_or(*set))?;
+        }
         let (leasts, mosts) = match rule.step() {
             Step::Grow => (sets, ends),
             Step::Shrink => (ends, sets),

@@ -13,14 +13,14 @@
 //! stays in the levels until enough choices were made to reach its end, and stands for all sets between the two.
 //! `proofs/LevelLemmas.antt` shows, by induction over levels, that the families have exactly the committees that some
 //! sequence of choices makes.
-ghost use Rattle.std.specs.Prelude.{◌≡◌, ◌<◌, ◌≤◌, None, IfOk, map};
+ghost use Rattle.std.specs.Prelude.{◌≡◌, ◌<◌, ◌≤◌, None, IfOk};
 ghost use Rattle.std.specs.List.{AllByRecursion};
 ghost use Rattle.ballot_base.specs.Clones.{AreClones};
 ghost use Rattle.ballot_base.specs.Lists.{IsIncreasing};
 ghost use Rattle.tie_walk.specs.Steps.Choices.{tied_by};
-ghost use Rattle.tie_families.specs.Steps.Levels.{shares_no_voter, ties_by, end_by, other_end_by, AreFollowing, AreReached};
+ghost use Rattle.tie_families.specs.Steps.Levels.{ties_by, end_by, AreFollowing, AreReached};
 
-use ballot_base::{CandSet, Clones, Profile};
+use ballot_base::{CandSet, Clones};
 use std::alloc::{AllocError, Allocator};
 use std::collections::HashSet;
 use tie_walk::sequential::{Choices, Step, in_order};
@@ -33,17 +33,15 @@ pub(crate) struct Levels<'a, A: Allocator + Copy> {
     ghost classes: { AreClones choices.profile.now.m choices.profile.now.rows clones.now },
 }
 
-impl<A: Allocator + Copy> Levels<'_, A> {
-    /// Those of the tied candidates who have no clone before them that may be chosen.
+impl<A: Allocator + Copy + Drop> Levels<'_, A> {
+    /// The tied candidates, but of clones only the first: all of them who may be chosen tie.
     fn firsts(&self, set: CandSet, tied: CandSet) -> CandSet
         requires { tied ≡ tied_by self.now.choices.rule self.now.choices.profile.now set }
         ensures { result ≡ ties_by self.now.choices.rule self.now.choices.profile.now set }
     {
-        let m = self.choices.profile.m();
-        let free = self.choices.rule.step().open_candidates(m, set);
         let mut firsts = tied;
         for c in tied.members() {
-            if !self.clones.class(c).common(free).upto(c - 1).is_empty() {
+            if !self.clones.class(c).common(tied).upto(c - 1).is_empty() {
                 firsts = firsts.without(c);
             }
         }
@@ -52,7 +50,7 @@ impl<A: Allocator + Copy> Levels<'_, A> {
 
     /// The set that all choices lead to if they may be made in any order. If there is no such set, the candidates who
     /// may be chosen next are returned as well: of clones who tie, only the first.
-    fn ties_and_end(&self, set: CandSet) -> (CandSet, Option<CandSet>)
+    pub(crate) fn ties_and_end(&self, set: CandSet) -> (CandSet, Option<CandSet>)
         ensures ties { result.1 ≡ None → result.0 ≡ ties_by self.now.choices.rule self.now.choices.profile.now set }
         ensures end { result.1 ≡ end_by self.now.choices.rule self.now.choices.profile.now set }
     {
@@ -63,7 +61,12 @@ impl<A: Allocator + Copy> Levels<'_, A> {
             return (tied, Some(CandSet::all(profile.m())));
         }
         let ties = self.firsts(set, tied);
-        if best > 0 && ties.len() >= 2 && shares_no_voter(profile, ties) {
+        if best > 0
+            && ties.len() >= 2
+            && profile
+                .ballots()
+                .all(|(ballot, _voters)| ballot.common(ties).len() <= 1)
+        {
             let end = match step {
                 Step::Grow => set.union(ties),
                 Step::Shrink => set.minus(ties),
@@ -72,9 +75,7 @@ impl<A: Allocator + Copy> Levels<'_, A> {
         }
         (ties, None)
     }
-}
 
-impl<A: Allocator + Copy + Drop> Levels<'_, A> {
     /// The families that follow those of level `size`.
     fn next_level(
         &self,
@@ -104,52 +105,20 @@ impl<A: Allocator + Copy + Drop> Levels<'_, A> {
         in_order(alloc, &found)
     }
 
-    /// The level after this many choices.
+    /// Level `size`: the families that this many choices make.
     pub(crate) fn reached_families(
         &self,
         alloc: A,
-        choices: u8,
+        size: u8,
     ) -> Result<Vec<CandSet, A>, AllocError>
-        requires { choices ≤ self.now.choices.profile.now.m }
-        ensures { IfOk result (λ sets. AreReached
-            self.now.choices.rule self.now.choices.profile.now choices sets.items) }
+        requires { size ≤ self.now.choices.profile.now.m }
+        ensures { IfOk result (λ sets. AreReached self.now.choices.rule self.now.choices.profile.now size sets.items) }
     {
-        let mut level = Vec::new(alloc);
-        level.push(self.choices.rule.step().start(self.choices.profile.m()))?;
-        for done in 0..choices {
+        let start = self.choices.rule.step().start(self.choices.profile.m());
+        let mut level = vec![in alloc; start]?;
+        for done in 0..size {
             level = self.next_level(alloc, done, &level)?;
         }
         Ok(level)
     }
-
-    /// The other end of each family of committees of size `k`, in order: its set if that has size `k`, and otherwise
-    /// the set that all choices lead to.
-    pub(crate) fn other_ends(
-        &self,
-        alloc: A,
-        k: u8,
-        sets: &[CandSet],
-    ) -> Result<Vec<CandSet, A>, AllocError>
-        ensures { IfOk result (λ ends. ends.items
-            ≡ map (other_end_by self.now.choices.rule self.now.choices.profile.now k) sets.now) }
-    {
-        let mut ends = Vec::with_capacity(alloc, sets.len())?;
-        for set in sets {
-            let end = if set.len() == k {
-                None
-            } else {
-                self.ties_and_end(*set).1
-            };
-            ends.push(end.unwrap_or(*set))?;
-        }
-        Ok(ends)
-    }
-}
-
-fn shares_no_voter<A: Allocator + Copy>(profile: &Profile<A>, candidates: CandSet) -> bool
-    ensures { result ≡ shares_no_voter profile.now.rows candidates }
-{
-    profile
-        .ballots()
-        .all(|(ballot, _voters)| ballot.common(candidates).len() <= 1)
 }

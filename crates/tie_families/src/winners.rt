@@ -64,13 +64,11 @@ impl<'a, A: Allocator + Copy> Iterator for FamilyWinners<'a, A> {
     ghost remaining = { item_count (λ (sets : List (List ℕ)). sets) };
 
     fn next(&mut self) -> Option<CandSet> {
-        match &mut self.walk {
-            Some(walk) => walk.next(),
-            None => {
-                let set = *self.sorted.get(self.place)?;
-                self.place += 1;
-                Some(set)
-            }
+        if let Some(walk) = &mut self.walk {
+            return walk.next();
         }
+        let set = *self.sorted.get(self.place)?;
+        self.place += 1;
+        Some(set)
     }
 }

@@ -1,12 +1,9 @@
 -- The best candidates of a set, found one by one.
 use Rattle.std.proofs.lemmas.Grind.{common_steps}
-use Rattle.std.proofs.Common.{◌≡◌, ℕ, zero, suc, ◌+◌, ◌-◌, ◌<◌, ◌≤◌, ◌^◌, ◌==◌, ◌&&◌, ◌++◌, Bool, true, false, cond, List, [], ◌∷◌, refl, sym, ap, ◌∙◌, arith, inl, inr, map, filter, max, min, append-nil, unwrap_or}
+use Rattle.std.proofs.Common.{◌≡◌, ℕ, zero, suc, ◌+◌, ◌-◌, ◌<◌, ◌≤◌, ◌^◌, ◌==◌, ◌&&◌, ◌++◌, Bool, true, List, [], ◌∷◌, refl, sym, ap, ◌∙◌, arith, inl, inr, map, filter, max, min, unwrap_or}
 use Rattle.std.specs.Prelude.{fold, nat_le}
 use Rattle.std.specs.List.{list_all, range_with_len, reduce, AllByRecursion}
 use Rattle.std.proofs.lemmas.Bool.{cases_Bool, eqb-true, eq-eqb, or_left, or_cases, and_left}
-use Rattle.std.proofs.lemmas.List.{map-append}
-use Rattle.std.proofs.lemmas.List.Elements.{filter-append}
-use Rattle.std.proofs.lemmas.List.Sums.{fold-append}
 use Rattle.std.proofs.Math.Bool.{and_assoc, and-true}
 use Rattle.ballot_base.specs.CandSet.{has_member}
 use Rattle.ballot_base.specs.Ballots.{Row}
@@ -22,23 +19,6 @@ use Rattle.tie_walk.proofs.WinnersLemmas.{greatest, values-greatest, bounds-grea
 pub range-more : (a n j : ℕ) → a + n ≡ j → range_with_len a (suc n) ≡ range_with_len a n ++ j ∷ []
 range-more a zero j e = ap (λ x. x ∷ []) (omega (arith, e))
 range-more a (suc n) j e = ap (λ l. a ∷ l) (range-more (a + 1) n j (omega (arith, e)))
-
-range-next : (c : ℕ) → 1 ≤ c → range_with_len 1 (c + 1 - 1) ≡ range_with_len 1 (c - 1) ++ c ∷ []
-range-next c low = grind (arith, common_steps, range-more)
-
-pub filter-next : (p : ℕ → Bool) (c : ℕ) → 1 ≤ c → filter p (range_with_len 1 (c + 1 - 1)) ≡ filter p (range_with_len 1 (c - 1)) ++ cond (p c) (c ∷ []) []
-filter-next p c low = ap (filter p) (range-next c low) ∙ filter-append p (range_with_len 1 (c - 1)) (c ∷ [])
-
-pub best-taken : (f : ℕ → ℕ → ℕ) (low : ℕ) (w : ℕ → ℕ) (p : ℕ → Bool) (c : ℕ) → 1 ≤ c → p c ≡ true
-    → fold f low (map w (filter p (range_with_len 1 (c + 1 - 1)))) ≡ f (fold f low (map w (filter p (range_with_len 1 (c - 1))))) (w c)
-best-taken f low w p c start is = grind (arith, common_steps, filter, map, filter-next, map-append, fold-append)
-
-pub filter-left : (p : ℕ → Bool) (c : ℕ) → 1 ≤ c → p c ≡ false → filter p (range_with_len 1 (c + 1 - 1)) ≡ filter p (range_with_len 1 (c - 1))
-filter-left p c low is = grind (arith, common_steps, filter-next, append-nil)
-
-pub map-taken : {X : Type 0} (f : ℕ → X) (p : ℕ → Bool) (c : ℕ) → 1 ≤ c → p c ≡ true
-    → map f (filter p (range_with_len 1 (c + 1 - 1))) ≡ map f (filter p (range_with_len 1 (c - 1))) ++ f c ∷ []
-map-taken f p c low is = grind (arith, common_steps, map, filter-next, filter, map-append)
 
 pub has_member-range : (a n c : ℕ) → a ≤ c → c < a + n → has_member (range_with_len a n) c ≡ true
 has_member-range a zero c low high = absurd (omega arith)

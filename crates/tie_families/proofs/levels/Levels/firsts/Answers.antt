@@ -3,11 +3,14 @@ use Rattle.std.specs.List.{range_with_len}
 use Rattle.ballot_base.specs.Limits.{most_candidates}
 use Rattle.ballot_base.specs.Lists.{IsIncreasing}
 use Rattle.ballot_base.specs.CandSet.{has_member, common_members, members_upto}
-use Rattle.ballot_base.proofs.Increasing.{IsIncreasing-filter}
+use Rattle.ballot_base.proofs.Increasing.{IsIncreasing-filter, has_member-filter, has_member_head}
 use Rattle.ballot_base.proofs.Passed.{AreLeft, all-left, one-gone, one-kept, rest-up}
 use Rattle.tie_walk.specs.Sequences.{hit_weights}
-use Rattle.tie_walk.specs.Steps.Choices.{step_of, open_candidates, is_choice}
+use Rattle.tie_walk.specs.Steps.Choices.{step_of, tied_by, is_choice}
 use Rattle.tie_walk.proofs.LawLemmas.{IsIncreasing-range}
+use Rattle.tie_walk.proofs.LevelLemmas.{in_bounds}
+use Rattle.ballot_base.specs.Clones.{clones_among}
+use Rattle.std.proofs.lemmas.Bool.{and_parts, or_right}
 use Rattle.tie_families.specs.Steps.Levels.{is_first_open}
 use Rattle.tie_families.proofs.StepLemmas.{first-free, firsts-are}
 use Rattle.tie_families.proofs.levels.Levels.firsts.Goals as goal
@@ -21,13 +24,19 @@ all-there false x = refl
 first-is : (g : _) (c : After-is_empty g) → is_first_open (step_of c.args.self.now.choices.rule) (get_or c.args.self.now.clones.now c.in-Some.c []) c.args.set c.in-Some.c ≡ c.is_empty.result
 first-is g c =
     let s = c.args.self.now.choices in
-    let m = s.profile.now.m in
+    let e = s.profile.now in
     let step = step_of s.rule in
-    let class = get_or c.args.self.now.clones.now c.in-Some.c [] in
-    let low : c.upto.result ≡ members_upto (common_members class (open_candidates step m c.args.set)) (c.in-Some.c - 1) =
-    rw (c.upto.ensures, c.common.ensures, c.class.ensures, c.open_candidates-free.ensures, c.step.ensures, c.m-m.ensures.value) in
-    first-free step m c.in-Some.c class c.args.set c.is_empty.result (rest-up m c.in-Some.c c.loop-c.c-iterator c.next.new.self c.in-Some.ensures.steps c.loop-c.invariant.rises).0
-    (λ is. sym low ∙ c.is_empty.ensures.0 is, λ empty. c.is_empty.ensures.1 (low ∙ empty))
+    let weights = hit_weights s.rule e.m in
+    let set = c.args.set in
+    let k = c.in-Some.c in
+    let here : has_member c.args.tied k ≡ true = c.loop-c.invariant.inside k (subst (λ l. has_member l k ≡ true) (sym c.in-Some.ensures.steps) (has_member_head k c.next.new.self)) in
+    let parts = and_parts (is_choice step weights e.m e.rows set k) (has_member (range_with_len 1 e.m) k) (sym (has_member-filter (is_choice step weights e.m e.rows set) (range_with_len 1 e.m) k) ∙ subst (λ l. has_member l k ≡ true) c.requires here) in
+    let bounds = in_bounds e.m (range_with_len 1 e.m) k (IsIncreasing-range 1 e.m e.m (omega arith)) parts.1 in
+    let class : get_or c.args.self.now.clones.now k [] ≡ clones_among e.m e.rows k = c.args.self.now.classes k bounds.0 bounds.1 in
+    let low : c.upto.result ≡ members_upto (common_members (clones_among e.m e.rows k) (tied_by s.rule e set)) (k - 1) =
+    rw (c.upto.ensures, c.common.ensures, c.class.ensures, class, c.requires) in
+    ap (λ l. is_first_open step l set k) class
+    ∙ first-free step weights e.m e.rows set k c.is_empty.result parts.0 (λ is. sym low ∙ c.is_empty.ensures.0 is, λ empty. c.is_empty.ensures.1 (low ∙ empty))
 
 pub loop-c-init : goal.loop-c-init
 loop-c-init g c =
@@ -37,10 +46,17 @@ loop-c-init g c =
     let passes : ℕ → Bool = λ n. is_first_open (step_of s.rule) (get_or c.args.self.now.clones.now n []) c.args.set n in
     let items : c.into_iter-c-iterator.result ≡ tied = c.into_iter-c-iterator.ensures.into_iter_gives ∙ c.members-c-items.ensures.items in
     record {
-      rises = subst (IsIncreasing 1 e.m) (sym (items ∙ c.requires)) (IsIncreasing-filter (is_choice (step_of s.rule) (hit_weights s.rule e.m) e.m e.rows c.args.set) 1 e.m (range_with_len 1 e.m) (IsIncreasing-range 1 e.m e.m (omega arith)));
+      rises = subst (IsIncreasing 1 most_candidates) (sym items) c.members-c-items.ensures.valid;
+      inside = λ n here. subst (λ l. has_member l n ≡ true) items here;
       set = c.members-c-items.ensures.valid;
       each = subst (AreLeft passes tied tied) (sym items) (λ n. all-there (has_member tied n) (passes n));
     }
+
+pub class-requires : goal.class-requires
+class-requires g c = (rest-up most_candidates c.in-Some.c c.loop-c.c-iterator c.next.new.self c.in-Some.ensures.steps c.loop-c.invariant.rises).0
+
+pub upto-requires : goal.upto-requires
+upto-requires g c = omega (arith, (rest-up most_candidates c.in-Some.c c.loop-c.c-iterator c.next.new.self c.in-Some.ensures.steps c.loop-c.invariant.rises).0)
 
 pub loop-c-preserved-then-not-is_empty : goal.loop-c-preserved-then-not-is_empty
 loop-c-preserved-then-not-is_empty g c =
@@ -48,10 +64,11 @@ loop-c-preserved-then-not-is_empty g c =
     let passes : ℕ → Bool = λ n. is_first_open (step_of s.rule) (get_or c.args.self.now.clones.now n []) c.args.set n in
     let first = c.in-Some.c in
     let rest = c.next.new.self in
-    let next = rest-up s.profile.now.m first c.loop-c.c-iterator rest c.in-Some.ensures.steps c.loop-c.invariant.rises in
+    let next = rest-up most_candidates first c.loop-c.c-iterator rest c.in-Some.ensures.steps c.loop-c.invariant.rises in
     let left : AreLeft passes c.args.tied c.loop-c.firsts (first ∷ rest) = subst (AreLeft passes c.args.tied c.loop-c.firsts) c.in-Some.ensures.steps c.loop-c.invariant.each in
     rw c.without-firsts.ensures record {
       rises = next.1;
+      inside = λ n here. c.loop-c.invariant.inside n (subst (λ l. has_member l n ≡ true) (sym c.in-Some.ensures.steps) (or_right (first == n) (has_member rest n) here));
       set = IsIncreasing-filter (λ x. not (x == first)) 1 most_candidates c.loop-c.firsts c.loop-c.invariant.set;
       each = one-gone passes c.args.tied c.loop-c.firsts rest first (first-is g (goal.at.loop-c-preserved-then-not-is_empty g c).After-is_empty ∙ c.if-not-is_empty.true) next.2 left;
     }
@@ -62,10 +79,11 @@ loop-c-preserved g c =
     let passes : ℕ → Bool = λ n. is_first_open (step_of s.rule) (get_or c.args.self.now.clones.now n []) c.args.set n in
     let first = c.in-Some.c in
     let rest = c.next.new.self in
-    let next = rest-up s.profile.now.m first c.loop-c.c-iterator rest c.in-Some.ensures.steps c.loop-c.invariant.rises in
+    let next = rest-up most_candidates first c.loop-c.c-iterator rest c.in-Some.ensures.steps c.loop-c.invariant.rises in
     let left : AreLeft passes c.args.tied c.loop-c.firsts (first ∷ rest) = subst (AreLeft passes c.args.tied c.loop-c.firsts) c.in-Some.ensures.steps c.loop-c.invariant.each in
     record {
       rises = next.1;
+      inside = λ n here. c.loop-c.invariant.inside n (subst (λ l. has_member l n ≡ true) (sym c.in-Some.ensures.steps) (or_right (first == n) (has_member rest n) here));
       set = c.loop-c.invariant.set;
       each = one-kept passes c.args.tied c.loop-c.firsts rest first (first-is g (goal.at.loop-c-preserved g c).After-is_empty ∙ c.if-not-is_empty.false) left;
     }

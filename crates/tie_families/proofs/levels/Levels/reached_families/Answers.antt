@@ -1,4 +1,4 @@
-use Rattle.std.proofs.Common.{◌≡◌, ◌<◌, ◌++◌, ◌∷◌, [], ◌∙◌, sym, ap, subst, arith}
+use Rattle.std.proofs.Common.{◌≡◌, ◌<◌, ◌∷◌, [], ◌∙◌, sym, ap, subst, arith}
 use Rattle.std.specs.List.{AllByRecursion}
 use Rattle.ballot_base.specs.Lists.{IsIncreasing}
 use Rattle.tie_walk.specs.Sequences.{hit_weights}
@@ -12,10 +12,8 @@ pub loop-done-init : goal.loop-done-init
 loop-done-init g c =
     let e = c.args.self.now.choices.profile.now in
     let rule = c.args.self.now.choices.rule in
-    let made : c.start.result ≡ start (step_of rule) e.m = c.start.ensures ∙ ap (start c.step.result) c.m.ensures.value ∙ ap (λ s. start s e.m) c.step.ensures in
-    let first : c.push.new.self.items ≡ start (step_of rule) e.m ∷ [] =
-    c.in_ok-push.ensures.items ∙ ap (λ l. l ++ c.start.result ∷ []) c.new-level.ensures.items ∙ ap (λ s. s ∷ []) made in
-    level-first (step_of rule) (hit_weights rule e.m) e.m e.rows c.m.ensures.valid.ballots (hit_weights-fall rule e.m) c.push.new.self.items first
+    let made : c.start-start.result ≡ start (step_of rule) e.m = c.start-start.ensures ∙ ap (start c.step.result) c.m.ensures.value ∙ ap (λ s. start s e.m) c.step.ensures in
+    level-first (step_of rule) (hit_weights rule e.m) e.m e.rows c.m.ensures.valid.ballots (hit_weights-fall rule e.m) c.in_ok-level.level.items (c.in_ok-level.ensures.items ∙ ap (λ s. s ∷ []) made)
 
 pub next_level-requires-clause-sets : goal.next_level-requires-clause-sets
 next_level-requires-clause-sets g c =
@@ -29,13 +27,13 @@ loop-done-preserved g c =
     let e = c.args.self.now.choices.profile.now in
     let rule = c.args.self.now.choices.rule in
     let fits : c.loop-done.done < e.m = omega (arith, c.requires) in
-    let made : IsNextFamilies (step_of rule) (hit_weights rule e.m) e.m e.rows c.loop-done.done c.loop-done.level.items c.in_ok-level.level.items =
-    subst (λ l. IsNextFamilies (step_of rule) (hit_weights rule e.m) e.m e.rows c.loop-done.done l c.in_ok-level.level.items) c.deref.ensures.value c.in_ok-level.ensures in
-    level-next (step_of rule) (hit_weights rule e.m) e.m e.rows c.m.ensures.valid.ballots (hit_weights-fall rule e.m) c.loop-done.done fits c.loop-done.level.items c.in_ok-level.level.items c.loop-done.invariant made
+    let made : IsNextFamilies (step_of rule) (hit_weights rule e.m) e.m e.rows c.loop-done.done c.loop-done.level.items c.in_ok-level-2.level.items =
+    subst (λ l. IsNextFamilies (step_of rule) (hit_weights rule e.m) e.m e.rows c.loop-done.done l c.in_ok-level-2.level.items) c.deref.ensures.value c.in_ok-level-2.ensures in
+    level-next (step_of rule) (hit_weights rule e.m) e.m e.rows c.m.ensures.valid.ballots (hit_weights-fall rule e.m) c.loop-done.done fits c.loop-done.level.items c.in_ok-level-2.level.items c.loop-done.invariant made
 
 pub returns : goal.returns
 returns g c =
     let e = c.args.self.now.choices.profile.now in
     let rule = c.args.self.now.choices.rule in
-    let all : c.loop-done.done ≡ c.args.choices = omega arith in
+    let all : c.loop-done.done ≡ c.args.size = omega arith in
     subst (λ n. IsFamilyLevel (step_of rule) (hit_weights rule e.m) e.m e.rows n c.loop-done.level.items) all c.loop-done.invariant
