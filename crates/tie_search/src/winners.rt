@@ -103,6 +103,15 @@ impl<S: Searchable + Drop> Iterator for SearchWinners<S> {
     ghost remaining = { item_count (λ (a : Asked S). a.left) };
 
     fn next(&mut self) -> Option<CandSet> {
-        self.asking.next(&self.best)
+        while let Some(branch) = self.asking.branches.pop() {
+            if let Some(winner) = self
+                .best
+                .ask(&branch, self.asking.found, &mut self.asking.asked)
+            {
+                self.asking.found = winner;
+                return Some(self.asking.first_of(&self.best, branch));
+            }
+        }
+        None
     }
 }
