@@ -7,11 +7,10 @@
 //!
 //! The clones can leave as well: in a winner with one of them, the candidate could take its place
 //! (`proofs/BranchLemmas.antt`).
-ghost use Rattle.std.specs.Prelude.{◌≡◌, ◌+◌, ◌^◌, ◌<◌, ◌≤◌, ◌∷◌, ◌++◌, [], None, true, false, length, option_to_list, MatchOption, ⊤};
+ghost use Rattle.std.specs.Prelude.{◌≡◌, ◌+◌, ◌≤◌, ◌∷◌, [], MatchOption, ⊤, length};
 ghost use Rattle.ballot_base.specs.Limits.{most_candidates};
 ghost use Rattle.ballot_base.specs.Lists.{IsIncreasing};
-ghost use Rattle.tie_search.specs.Steps.Branches.{IsAskingIn, IsOnTheWayIn, IsStepFrom, IsStepIn};
-ghost use Rattle.tie_search.specs.Steps.Branches.{KnowsBest, first_branches};
+ghost use Rattle.tie_search.specs.Steps.Branches.{IsAskingIn, IsOnTheWayIn, IsStepFrom, KnowsBest, first_branches};
 
 use crate::best::Best;
 use crate::branch::Branch;

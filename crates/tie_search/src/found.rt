@@ -4,8 +4,7 @@
 //! that were listed, and from then on its value is looked for. If more tie than can be listed, the list stays full, and
 //! only higher values still count. A candidate that was tried with a set is no longer free to join it, so no committee
 //! is met twice.
-ghost use Rattle.std.specs.Prelude.{◌≡◌, ℕ, ◌^◌, ◌<◌, ◌≤◌, [], List, false, true, slice_index_or, MatchOption};
-ghost use Rattle.ballot_base.specs.CandSet.{has_member};
+ghost use Rattle.std.specs.Prelude.{◌≡◌, ℕ, ◌^◌, ◌<◌, ◌≤◌, [], List, false, slice_index_or, MatchOption};
 ghost use Rattle.tie_search.specs.Steps.Found.{Advances, AreListed, IsListed, IsSettled};
 ghost use Rattle.tie_search.specs.Tied.{most_tied};
 
