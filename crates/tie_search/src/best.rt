@@ -12,7 +12,7 @@ ghost use Rattle.tie_walk.specs.Winners.{best_value};
 ghost use Rattle.tie_search.specs.Steps.Branches.{IsAnswerIn, IsBestIn, IsBranchIn, IsGuessIn, KnowsBest};
 
 use crate::branch::Branch;
-use crate::found::Tied;
+use crate::found::{MOST_TIED, Tied};
 use crate::searchable::Searchable;
 use ballot_base::CandSet;
 use row_bounds::Node;
@@ -40,7 +40,11 @@ impl<S: Searchable> Best<S> {
         let m = search.m();
         let tied = match search.tied(k) {
             Some(tied) => tied,
-            None => Tied::one(best_committee(&search, k)),
+            None => Tied {
+                committees: [best_committee(&search, k); MOST_TIED],
+                len: 1,
+                are_all: false,
+            },
         };
         Best {
             value: search.value(tied.committees[0]),

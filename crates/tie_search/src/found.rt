@@ -4,7 +4,7 @@
 //! that were listed, and from then on its value is looked for. If more tie than can be listed, the list stays full, and
 //! only higher values still count. A candidate that was tried with a set is no longer free to join it, so no committee
 //! is met twice.
-ghost use Rattle.std.specs.Prelude.{◌≡◌, ℕ, ◌^◌, ◌<◌, ◌≤◌, [], List, false, slice_index_or, MatchOption};
+ghost use Rattle.std.specs.Prelude.{◌≡◌, ℕ, ◌^◌, ◌<◌, ◌≤◌, List, MatchOption};
 ghost use Rattle.tie_search.specs.Steps.Found.{Advances, AreListed, IsListed, IsSettled};
 ghost use Rattle.tie_search.specs.Tied.{most_tied};
 
@@ -20,21 +20,6 @@ pub struct Tied {
     pub len: usize,
     /// Whether every other committee with this value becomes a listed one if clones take the place of members.
     pub are_all: bool,
-}
-
-impl Tied {
-    /// Only this committee is listed. There may be others.
-    pub fn one(committee: CandSet) -> Tied
-        ensures first { slice_index_or result.committees 0 [] ≡ committee }
-        ensures one { result.len ≡ 1 }
-        ensures others { result.are_all ≡ false }
-    {
-        Tied {
-            committees: [committee; MOST_TIED],
-            len: 1,
-            are_all: false,
-        }
-    }
 }
 
 /// Which committees a search looks for.
