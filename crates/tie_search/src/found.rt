@@ -4,9 +4,8 @@
 //! that were listed, and from then on its value is looked for. If more tie than can be listed, the list stays full, and
 //! only higher values still count. A candidate that was tried with a set is no longer free to join it, so no committee
 //! is met twice.
-ghost use Rattle.std.specs.Prelude.{◌≡◌, ℕ, ◌^◌, ◌<◌, ◌≤◌, List, MatchOption};
+ghost use Rattle.std.specs.Prelude.{◌≡◌, ℕ, ◌^◌, ◌<◌, ◌≤◌, List};
 ghost use Rattle.tie_search.specs.Steps.Found.{Advances, AreListed, IsListed, IsSettled};
-ghost use Rattle.tie_search.specs.Tied.{most_tied};
 
 use ballot_base::CandSet;
 
@@ -85,13 +84,5 @@ impl Found {
         } else {
             self.least = value + 1;
         }
-    }
-
-    /// The committee that was listed first. Returns `None` if none is listed.
-    pub fn first(&self) -> Option<CandSet>
-        requires few { self.now.len ≤ most_tied }
-        ensures { MatchOption result (self.now.len ≡ 0) (λ committee. IsListed self.now committee) }
-    {
-        (self.len > 0).then_some(self.committees[0])
     }
 }
