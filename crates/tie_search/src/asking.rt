@@ -7,11 +7,10 @@
 //!
 //! The clones can leave as well: in a winner with one of them, the candidate could take its place
 //! (`proofs/BranchLemmas.antt`).
-ghost use Rattle.std.specs.Prelude.{◌≡◌, ◌+◌, ◌^◌, ◌<◌, ◌≤◌, ◌∷◌, ◌++◌, [], None, true, false, length, option_to_list, MatchOption, ⊤};
+ghost use Rattle.std.specs.Prelude.{◌≡◌, ◌+◌, ◌≤◌, ◌∷◌, [], MatchOption, ⊤, length};
 ghost use Rattle.ballot_base.specs.Limits.{most_candidates};
 ghost use Rattle.ballot_base.specs.Lists.{IsIncreasing};
-ghost use Rattle.tie_search.specs.Steps.Branches.{IsAskingIn, IsOnTheWayIn, IsStepFrom, IsStepIn};
-ghost use Rattle.tie_search.specs.Steps.Branches.{KnowsBest, first_branches};
+ghost use Rattle.tie_search.specs.Steps.Branches.{IsAskingIn, IsOnTheWayIn, IsStepFrom, KnowsBest, first_branches};
 
 use crate::best::Best;
 use crate::branch::Branch;
@@ -32,26 +31,8 @@ pub(crate) struct Asking {
 }
 
 impl Asking {
-    /// The first of the winners still to come.
-    pub(crate) fn next<S: Searchable>(&mut self, best: &Best<S>) -> Option<CandSet>
-        requires knows { KnowsBest S.value_of S.class_of S.candidates best.now }
-        requires asking { IsAskingIn S.value_of S.candidates best.now self.old }
-        ensures asking { IsAskingIn S.value_of S.candidates best.now self.new }
-        ensures step { IsStepIn S.value_of S.candidates best.now self.old (option_to_list result) self.new }
-        ensures end { result ≡ None → self.new.branches.items ≡ [] }
-        ensures asked { self.new.asked ≤ self.old.asked + S.candidates best.now.search + best.now.k }
-    {
-        while let Some(branch) = self.branches.pop() {
-            if let Some(winner) = best.ask(&branch, self.found, &mut self.asked) {
-                self.found = winner;
-                return Some(self.first_of(best, branch));
-            }
-        }
-        None
-    }
-
     /// The first winner that completes a branch. The winner that was found last must complete it.
-    fn first_of<S: Searchable>(&mut self, best: &Best<S>, mut branch: Branch) -> CandSet
+    pub(crate) fn first_of<S: Searchable>(&mut self, best: &Best<S>, mut branch: Branch) -> CandSet
         requires knows { KnowsBest S.value_of S.class_of S.candidates best.now }
         requires way { IsOnTheWayIn S.value_of S.candidates best.now self.old branch }
         ensures asking { IsAskingIn S.value_of S.candidates best.now self.new }

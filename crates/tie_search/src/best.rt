@@ -5,16 +5,15 @@
 //!
 //! Before such a search, the committee found last is tried, after exchanges of clones. It is tested by its members and
 //! value, so any committee may be tried.
-ghost use Rattle.std.specs.Prelude.{◌≡◌, ◌+◌, ◌≤◌, [], true, MatchOption, length, ⊤};
+ghost use Rattle.std.specs.Prelude.{◌≡◌, ◌+◌, ◌≤◌, true, length};
 ghost use Rattle.ballot_base.specs.Limits.{most_candidates};
 ghost use Rattle.ballot_base.specs.Lists.{IsIncreasing};
-ghost use Rattle.tie_walk.specs.Ceilings.{IsBound};
 ghost use Rattle.tie_walk.specs.Winners.{best_value};
 ghost use Rattle.tie_search.specs.Tied.{AreBest};
 ghost use Rattle.tie_search.specs.Steps.Branches.{IsAnswerIn, IsBestIn, IsBranchIn, IsGuessIn, KnowsBest};
 
 use crate::branch::Branch;
-use crate::found::Tied;
+use crate::found::{MOST_TIED, Tied};
 use crate::searchable::Searchable;
 use ballot_base::CandSet;
 use row_bounds::Node;
@@ -101,7 +100,11 @@ pub(crate) fn best_committees<S: Searchable>(search: &S, k: u8) -> Tied
 {
     match search.tied(k) {
         Some(tied) => tied,
-        None => Tied::one(best_committee(search, k)),
+        None => Tied {
+            committees: [best_committee(search, k); MOST_TIED],
+            len: 1,
+            are_all: false,
+        },
     }
 }
 

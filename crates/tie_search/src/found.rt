@@ -4,10 +4,8 @@
 //! that were listed, and from then on its value is looked for. If more tie than can be listed, the list stays full, and
 //! only higher values still count. A candidate that was tried with a set is no longer free to join it, so no committee
 //! is met twice.
-ghost use Rattle.std.specs.Prelude.{◌≡◌, ℕ, ◌^◌, ◌<◌, ◌≤◌, [], List, false, true, slice_index_or, MatchOption};
-ghost use Rattle.ballot_base.specs.CandSet.{has_member};
+ghost use Rattle.std.specs.Prelude.{◌≡◌, ℕ, ◌^◌, ◌<◌, ◌≤◌, List};
 ghost use Rattle.tie_search.specs.Steps.Found.{Advances, AreListed, IsListed, IsSettled};
-ghost use Rattle.tie_search.specs.Tied.{most_tied};
 
 use ballot_base::CandSet;
 
@@ -21,21 +19,6 @@ pub struct Tied {
     pub len: usize,
     /// Whether every other committee with this value becomes a listed one if clones take the place of members.
     pub are_all: bool,
-}
-
-impl Tied {
-    /// Only this committee is listed. There may be others.
-    pub fn one(committee: CandSet) -> Tied
-        ensures first { slice_index_or result.committees 0 [] ≡ committee }
-        ensures one { result.len ≡ 1 }
-        ensures others { result.are_all ≡ false }
-    {
-        Tied {
-            committees: [committee; MOST_TIED],
-            len: 1,
-            are_all: false,
-        }
-    }
 }
 
 /// Which committees a search looks for.
@@ -101,13 +84,5 @@ impl Found {
         } else {
             self.least = value + 1;
         }
-    }
-
-    /// The committee that was listed first. Returns `None` if none is listed.
-    pub fn first(&self) -> Option<CandSet>
-        requires few { self.now.len ≤ most_tied }
-        ensures { MatchOption result (self.now.len ≡ 0) (λ committee. IsListed self.now committee) }
-    {
-        (self.len > 0).then_some(self.committees[0])
     }
 }

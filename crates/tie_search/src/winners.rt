@@ -111,6 +111,13 @@ impl<S: Searchable + Drop> Iterator for SearchWinners<S> {
     ghost remaining = { item_count (λ (a : Asked S). a.left) };
 
     fn next(&mut self) -> Option<CandSet> {
-        self.asking.next(&self.best)
+        let asking = &mut self.asking;
+        while let Some(branch) = asking.branches.pop() {
+            if let Some(winner) = self.best.ask(&branch, asking.found, &mut asking.asked) {
+                asking.found = winner;
+                return Some(asking.first_of(&self.best, branch));
+            }
+        }
+        None
     }
 }

@@ -79,10 +79,6 @@ IsBarren value m k branch = (committee : List ℕ) → IsWinnerOf value m k bran
 abbrev pub IsAnswer : (List ℕ → ℕ) → ℕ → ℕ → Branch → Option (List ℕ) → Type 0
 IsAnswer value m k branch answer = MatchOption answer (IsBarren value m k branch) (IsWinnerOf value m k branch)
 
--- a committee with the highest value, or no such committee completes the branch
-abbrev pub IsGuess : (List ℕ → ℕ) → ℕ → ℕ → Branch → Option (List ℕ) → Type 0
-IsGuess value m k branch guess = MatchOption guess (IsBarren value m k branch) (IsBest value m k)
-
 -- what is known of the committees of k with the highest value is true
 abbrev pub KnowsBest : {S : Type 0} → (S → List ℕ → ℕ) → (S → ℕ → List ℕ) → (S → ℕ) → Best S → Type 0
 KnowsBest value class candidates best =
@@ -119,8 +115,11 @@ IsBranchIn candidates best = IsBranch (candidates best.search) best.k
 abbrev pub IsBestIn : {S : Type 0} → (S → List ℕ → ℕ) → (S → ℕ) → Best S → List ℕ → Type 0
 IsBestIn value candidates best = IsBest (value best.search) (candidates best.search) best.k
 
+-- a committee with the highest value, or no such committee completes the branch
 abbrev pub IsGuessIn : {S : Type 0} → (S → List ℕ → ℕ) → (S → ℕ) → Best S → Branch → Option (List ℕ) → Type 0
-IsGuessIn value candidates best = IsGuess (value best.search) (candidates best.search) best.k
+IsGuessIn value candidates best branch guess =
+    MatchOption guess (IsBarren (value best.search) (candidates best.search) best.k branch)
+    (IsBestIn value candidates best)
 
 abbrev pub IsAnswerIn : {S : Type 0} → (S → List ℕ → ℕ) → (S → ℕ) → Best S → Branch → Option (List ℕ) → Type 0
 IsAnswerIn value candidates best = IsAnswer (value best.search) (candidates best.search) best.k
