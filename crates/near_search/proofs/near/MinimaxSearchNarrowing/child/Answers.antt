@@ -6,10 +6,10 @@ use Rattle.row_bounds.proofs.NarrowedLemmas.{narrowed-none}
 use Rattle.near_search.proofs.near.MinimaxSearchNarrowing.child.Goals as goal
 
 pub with-requires-clause-low : goal.with-requires-clause-low
-with-requires-clause-low g c = member-low 1 c.args.self.now.m c.args.node.now.free c.args.next c.requires.is_node.free_within c.requires.next
+with-requires-clause-low g c = member-low 1 c.args.self.now.m c.args.node.now.free c.args.next c.requires.node.is_node.free_within c.requires.next
 
 pub with-requires-clause-high : goal.with-requires-clause-high
-with-requires-clause-high g c = omega (arith, c.requires.plan.valid.most, member-high 1 c.args.self.now.m c.args.node.now.free c.args.next c.requires.is_node.free_within c.requires.next)
+with-requires-clause-high g c = omega (arith, c.requires.plan.is_plan.valid.most, member-high 1 c.args.self.now.m c.args.node.now.free c.args.next c.requires.node.is_node.free_within c.requires.next)
 
 pub returns-clause-child : goal.returns-clause-child
 returns-clause-child g c =
@@ -19,5 +19,5 @@ returns-clause-child g c =
       set = c.with.ensures;
       left = refl;
       narrowed = rw c.without.ensures (narrowed-none (closeness e.m e.rows) e.m (with_member node.set c.args.next) (without_member node.free c.args.next) (node.left - 1) c.args._plan.now.least
-          (node-with e.m node.set node.free c.args.next c.requires.is_node c.requires.next));
+          (node-with e.m node.set node.free c.args.next c.requires.node.is_node c.requires.next));
     }

@@ -16,29 +16,29 @@ use Rattle.thiele_search.proofs.search.ThieleSearchNarrowing.child.Goals as goal
 use Rattle.thiele_search.proofs.search.ThieleSearchNarrowing.child.Goals.{After-of}
 
 pub with-requires-clause-low : goal.with-requires-clause-low
-with-requires-clause-low g c = member-low 1 c.args.self.now.election.m c.args.node.now.free c.args.next c.requires.is_node.free_within c.requires.next
+with-requires-clause-low g c = member-low 1 c.args.self.now.election.m c.args.node.now.free c.args.next c.requires.node.is_node.free_within c.requires.next
 
 pub with-requires-clause-high : goal.with-requires-clause-high
 with-requires-clause-high g c =
     omega (
       arith,
-      c.requires.valued.election.most,
-      member-high 1 c.args.self.now.election.m c.args.node.now.free c.args.next c.requires.is_node.free_within c.requires.next,
+      c.requires.node.valued.election.most,
+      member-high 1 c.args.self.now.election.m c.args.node.now.free c.args.next c.requires.node.is_node.free_within c.requires.next,
     )
 
 pub of-requires : goal.of-requires
 of-requires g c =
     omega (
       arith,
-      c.requires.valued.election.most,
-      member-high 1 c.args.self.now.election.m c.args.node.now.free c.args.next c.requires.is_node.free_within c.requires.next,
+      c.requires.node.valued.election.most,
+      member-high 1 c.args.self.now.election.m c.args.node.now.free c.args.next c.requires.node.is_node.free_within c.requires.next,
     )
 
 -- the value after the candidate has joined
 joined : (g : _) (c : After-of g) → IsValued c.args.self.now (with_member c.args.node.now.set c.args.next) (c.args.node.now.value + c.of.result)
 joined g c =
     let node = c.args.node.now in
-    valued-more c.args.self.now node.set node.free c.args.plan.now.worths node.value c.args.next c.of.result c.requires.valued c.requires.is_node c.requires.next (λ n is. c.requires.plan n (c.requires.among n is)) c.of.ensures.value
+    valued-more c.args.self.now node.set node.free c.args.plan.now.worths node.value c.args.next c.of.result c.requires.node.valued c.requires.node.is_node c.requires.next (λ n is. c.requires.plan.is_plan n (c.requires.plan.among n is)) c.of.ensures.value
 
 pub overflow_add-child : goal.overflow_add-child
 overflow_add-child g c =
@@ -49,7 +49,7 @@ overflow_add-child g c =
 
 pub promising-kept-requires-clause-is_node : goal.promising-kept-requires-clause-is_node
 promising-kept-requires-clause-is_node g c =
-    rw (c.with.ensures, c.without.ensures) (node-with c.args.self.now.election.m c.args.node.now.set c.args.node.now.free c.args.next c.requires.is_node c.requires.next)
+    rw (c.with.ensures, c.without.ensures) (node-with c.args.self.now.election.m c.args.node.now.set c.args.node.now.free c.args.next c.requires.node.is_node c.requires.next)
 
 pub promising-kept-requires-clause-valued : goal.promising-kept-requires-clause-valued
 promising-kept-requires-clause-valued g c = rw c.with.ensures (joined g (goal.at.promising-kept-requires-clause-valued g c).After-of)
@@ -60,9 +60,9 @@ promising-kept-requires-clause-gains g c n is =
     let node = c.args.node.now in
     let here : has_member node.free n ≡ true = without-is node.free c.args.next n (rw c.without.ensures at is) in
     let before : gain_at (tally_value tally) node.set n ≤ get_or c.args.plan.now.worths n 0 =
-    gain-same tally node.set node.free c.args.plan.now.worths c.requires.valued.election c.requires.is_node (λ x in_. c.requires.plan x (c.requires.among x in_)) n here in
+    gain-same tally node.set node.free c.args.plan.now.worths c.requires.node.valued.election c.requires.node.is_node (λ x in_. c.requires.plan.is_plan x (c.requires.plan.among x in_)) n here in
     let falls : gain_at (tally_value tally) (with_member node.set c.args.next) n ≤ gain_at (tally_value tally) node.set n =
-    gain-falls (tally_value tally) (thiele_rule-submodular tally.rule tally.k tally.election.rows c.requires.valued.size) (thiele-same (increments tally.rule tally.k) tally.election.rows) node.set c.args.next n in
+    gain-falls (tally_value tally) (thiele_rule-submodular tally.rule tally.k tally.election.rows c.requires.node.valued.size) (thiele-same (increments tally.rule tally.k) tally.election.rows) node.set c.args.next n in
     rw c.with.ensures (omega (arith, before, falls))
 
 -- what narrows, or the default if nothing is left
@@ -79,7 +79,7 @@ returns-clause-child g c =
     let set = with_member node.set c.args.next in
     let free = without_member node.free c.args.next in
     let least = c.args.plan.now.least in
-    let is_node : IsNode m set free = node-with m node.set node.free c.args.next c.requires.is_node c.requires.next in
+    let is_node : IsNode m set free = node-with m node.set node.free c.args.next c.requires.node.is_node c.requires.next in
     record {
       set = c.with.ensures;
       left = refl;

@@ -9,7 +9,7 @@ use Rattle.thiele_search.proofs.search.ThieleSearchNarrowing.plan.Goals as goal
 pub promising-requires-clause-gains : goal.promising-requires-clause-gains
 promising-requires-clause-gains g c =
     let t = c.args.self.now in
-    gain-same t c.args.node.now.set c.in_ok-free.free c.gains_at-gains.result c.requires.valued.election c.in_ok-free.ensures.is_node c.gains_at-gains.ensures
+    gain-same t c.args.node.now.set c.in_ok-free.free c.gains_at-gains.result c.requires.node.valued.election c.in_ok-free.ensures.is_node c.gains_at-gains.ensures
 
 pub returns : goal.returns
 returns g c =
