@@ -106,11 +106,7 @@ impl<A: Allocator + Copy + Drop> Levels<'_, A> {
     }
 
     /// Level `size`: the families that this many choices make.
-    pub(crate) fn reached_families(
-        &self,
-        alloc: A,
-        size: u8,
-    ) -> Result<Vec<CandSet, A>, AllocError>
+    pub(crate) fn reached_families(&self, alloc: A, size: u8) -> Result<Vec<CandSet, A>, AllocError>
         requires { size ≤ self.now.choices.profile.now.m }
         ensures { IfOk result (λ sets. AreReached self.now.choices.rule self.now.choices.profile.now size sets.items) }
     {

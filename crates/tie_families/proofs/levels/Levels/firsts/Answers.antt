@@ -1,7 +1,7 @@
+use Rattle.std.proofs.lemmas.Grind.{common_steps}
 use Rattle.std.proofs.Common.{◌≡◌, ℕ, ◌&&◌, ◌||◌, ◌∙◌, ◌∷◌, Bool, true, false, not, [], refl, sym, ap, subst, arith, get_or, filter, ◌-◌, ◌==◌}
 use Rattle.std.specs.List.{range_with_len}
 use Rattle.ballot_base.specs.Limits.{most_candidates}
-use Rattle.ballot_base.specs.Lists.{IsIncreasing}
 use Rattle.ballot_base.specs.CandSet.{has_member, common_members, members_upto}
 use Rattle.ballot_base.proofs.Increasing.{IsIncreasing-filter, has_member-filter, has_member_head}
 use Rattle.ballot_base.proofs.Passed.{AreLeft, all-left, one-gone, one-kept, rest-up}
@@ -39,18 +39,7 @@ first-is g c =
     ∙ first-free step weights e.m e.rows set k c.is_empty.result parts.0 (λ is. sym low ∙ c.is_empty.ensures.0 is, λ empty. c.is_empty.ensures.1 (low ∙ empty))
 
 pub loop-c-init : goal.loop-c-init
-loop-c-init g c =
-    let s = c.args.self.now.choices in
-    let e = s.profile.now in
-    let tied = c.args.tied in
-    let passes : ℕ → Bool = λ n. is_first_open (step_of s.rule) (get_or c.args.self.now.clones.now n []) c.args.set n in
-    let items : c.into_iter-c-iterator.result ≡ tied = c.into_iter-c-iterator.ensures.into_iter_gives ∙ c.members-c-items.ensures.items in
-    record {
-      rises = subst (IsIncreasing 1 most_candidates) (sym items) c.members-c-items.ensures.valid;
-      inside = λ n here. subst (λ l. has_member l n ≡ true) items here;
-      set = c.members-c-items.ensures.valid;
-      each = subst (AreLeft passes tied tied) (sym items) (λ n. all-there (has_member tied n) (passes n));
-    }
+loop-c-init g c = grind (arith, common_steps, AreLeft, all-there)
 
 pub class-requires : goal.class-requires
 class-requires g c = (rest-up most_candidates c.in-Some.c c.loop-c.c-iterator c.next.new.self c.in-Some.ensures.steps c.loop-c.invariant.rises).0
@@ -74,19 +63,7 @@ loop-c-preserved-then-not-is_empty g c =
     }
 
 pub loop-c-preserved : goal.loop-c-preserved
-loop-c-preserved g c =
-    let s = c.args.self.now.choices in
-    let passes : ℕ → Bool = λ n. is_first_open (step_of s.rule) (get_or c.args.self.now.clones.now n []) c.args.set n in
-    let first = c.in-Some.c in
-    let rest = c.next.new.self in
-    let next = rest-up most_candidates first c.loop-c.c-iterator rest c.in-Some.ensures.steps c.loop-c.invariant.rises in
-    let left : AreLeft passes c.args.tied c.loop-c.firsts (first ∷ rest) = subst (AreLeft passes c.args.tied c.loop-c.firsts) c.in-Some.ensures.steps c.loop-c.invariant.each in
-    record {
-      rises = next.1;
-      inside = λ n here. c.loop-c.invariant.inside n (subst (λ l. has_member l n ≡ true) (sym c.in-Some.ensures.steps) (or_right (first == n) (has_member rest n) here));
-      set = c.loop-c.invariant.set;
-      each = one-kept passes c.args.tied c.loop-c.firsts rest first (first-is g (goal.at.loop-c-preserved g c).After-is_empty ∙ c.if-not-is_empty.false) left;
-    }
+loop-c-preserved g c = let is = first-is g (goal.at.loop-c-preserved g c).After-is_empty in grind (arith, common_steps, rest-up, or_right, AreLeft, one-kept)
 
 pub returns : goal.returns
 returns g c =
