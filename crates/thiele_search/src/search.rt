@@ -140,7 +140,12 @@ impl<'a, A: Allocator + Copy> ThieleSearch<'a, A> {
         // Counting pairs takes about as long as a round over the rows.
         self.moves.work(u32::from(is_due));
         match &self.aids.sums {
-            Some(given) if is_due => uses.note(pairs::narrowed(self.values.profile(), given, node, least)),
+            Some(given) if is_due => uses.note(pairs::narrowed(
+                self.values.profile(),
+                given,
+                node,
+                least,
+            )),
             _ => Some(node.free),
         }
     }
