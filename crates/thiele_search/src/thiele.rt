@@ -109,7 +109,10 @@ impl<'a, A: Allocator + Copy + Drop> ThieleSearch<'a, A> {
             moves: Moves::new(profile.rows().div_ceil(32) as u64),
         };
         let good = search.grown(k);
-        let priced = Priced::of(memory.multipliers, &search.values, k, good);
+        // No committee is worth more than all candidates together, so prices may have nothing to show.
+        let is_best = search.value(good) == search.value(CandSet::all(profile.m()));
+        let multipliers = if is_best { None } else { memory.multipliers };
+        let priced = Priced::of(multipliers, &search.values, k, good);
         let aids = search.aids;
         let mut search = ThieleSearch {
             aids: Aids { priced, ..aids },
@@ -170,10 +173,15 @@ impl<'a, A: Allocator + Copy> Searchable for ThieleSearch<'a, A> {
     }
 
     fn tied(&self, k: u8) -> Option<Tied> {
-        // If prices show under `cc` that the good committee is the best, hundreds may tie with it. Then winners come
+        let least = match self.good_committee(k) {
+            Some(committee) => self.value(committee),
+            None => 0,
+        };
+        // If it is known under `cc` that the good committee is the best, hundreds may tie with it. Then winners come
         // sooner one by one: with 64 popular candidates and 20 seats, the first came after 0.01 s and not up to 5 s.
-        let is_cc = self.values.rule() == ThieleRule::Cc;
-        if is_cc && matches!(&self.aids.priced, Some(priced) if priced.show_best) {
+        let is_best = least == self.value(CandSet::all(self.m()))
+            || matches!(&self.aids.priced, Some(priced) if priced.show_best);
+        if is_best && self.values.rule() == ThieleRule::Cc {
             return None;
         }
         // All winners took two to three times as long when each was searched for.
@@ -184,10 +192,6 @@ impl<'a, A: Allocator + Copy> Searchable for ThieleSearch<'a, A> {
             left: k,
         };
         self.counts_pairs.set(true);
-        let least = match self.good_committee(k) {
-            Some(committee) => self.value(committee),
-            None => 0,
-        };
         Some(descent::list_tied(self, all, least))
     }
 }
