@@ -17,4 +17,4 @@ pub mod Sums
 pub mod Passed
 pub mod MemberLemmas
 pub mod TotalLemmas
-pub mod Greatest
+pub mod Ranks
