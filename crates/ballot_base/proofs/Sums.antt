@@ -1,6 +1,6 @@
 -- Sums of the worths of candidates.
 use Rattle.std.proofs.lemmas.Grind.{common_steps}
-use Rattle.std.proofs.Common.{◌≡◌, ℕ, zero, suc, ◌+◌, ◌-◌, ◌*◌, ◌≤◌, ◌==◌, ◌&&◌, ◌||◌, ◌∙◌, Bool, true, false, List, [], ◌∷◌, refl, sym, ap, arith, inl, inr, length, filter, get_or, replicate, sum_by}
+use Rattle.std.proofs.Common.{◌≡◌, ℕ, zero, suc, ◌+◌, ◌-◌, ◌*◌, ◌<◌, ◌≤◌, ◌==◌, ◌&&◌, ◌||◌, ◌∙◌, Bool, true, false, List, [], ◌∷◌, refl, sym, ap, arith, inl, inr, length, filter, get_or, get_or-set_other, get_or-set_same, replicate, set, sum_by}
 use Rattle.std.proofs.lemmas.Bool.{cases_eq}
 use Rattle.std.proofs.lemmas.List.Sums.{sum_by-cons}
 use Rattle.ballot_base.specs.Lists.{IsIncreasing}
@@ -97,6 +97,13 @@ pub replicate-most : (n i x most : ℕ) → x ≤ most → get_or {A = ℕ} (rep
 replicate-most zero i x most small = omega arith
 replicate-most (suc n) zero x most small = small
 replicate-most (suc n) (suc i) x most small = replicate-most n i x most small
+
+-- a number takes the place of another
+pub set-most : (xs : List ℕ) (at n most : ℕ) → at < length xs → ((i : ℕ) → get_or xs i 0 ≤ most) → n ≤ most → (i : ℕ) → get_or (set xs at n) i 0 ≤ most
+set-most xs at n most inside few low i = elim (cases_eq i at) [
+  | inl same ↦ omega (arith, low, ap (λ k. get_or (set xs at n) k 0) same, get_or-set_same xs at n 0 inside)
+  | inr other ↦ omega (arith, few i, get_or-set_other xs at i n 0 other)
+]
 
 -- ---- the bound of what some of the candidates are worth
 

@@ -37,6 +37,15 @@ const LEAST_FALL: u128 = 8192;
 /// The number of rounds after which a large gap ends the moving, if the effort has a limit of it.
 const ROUNDS_BEFORE_DOUBT: u16 = 100;
 
+/// The number of rounds after which a gap of more than twice that limit ends it. No gap was seen that was so large then
+/// and within the limit after `ROUNDS_BEFORE_DOUBT`. Without this, small random elections took up to a tenth more
+/// instructions.
+const ROUNDS_BEFORE_FIRST_DOUBT: u16 = 30;
+
+/// A gap counts as closed if it is less than the large one divided by this. Without it, multipliers moved on for
+/// hundreds of rounds among neighbours, which took two to four times the instructions under `pav`.
+const CLOSED: u128 = 1 << 20;
+
 /// How long multipliers are moved.
 #[derive(Clone, Copy)]
 pub struct Effort {
@@ -48,8 +57,8 @@ pub struct Effort {
     pub least_pace: u64,
     /// The number of rounds without a smaller gap after which steps get shorter.
     pub patience: u8,
-    /// The largest gap with which moving goes on after many rounds. If there is no such limit, moving ends as soon as
-    /// the gap closes too slowly.
+    /// The largest gap with which moving goes on after many rounds, or until the gap is as good as closed. If there is
+    /// no such limit, moving ends as soon as the gap closes too slowly.
     pub large_gap: Option<u128>,
     /// Whether moving ends with the multipliers whose gap was the smallest, and not with the last ones.
     pub goes_back: bool,
@@ -353,7 +362,7 @@ impl Progress {
         if fall > 0 {
             self.smallest = gap.size;
         }
-        if self.is_hopeless() {
+        if self.is_over() {
             return Next::End;
         }
         if fall > 0 {
@@ -371,10 +380,14 @@ impl Progress {
         Next::Back
     }
 
-    /// Whether the gap closes too slowly, or is too large.
-    fn is_hopeless(&mut self) -> bool {
+    /// Whether the gap is as good as closed, closes too slowly, or is too large.
+    fn is_over(&mut self) -> bool {
         if let Some(large) = self.effort.large_gap {
-            return self.rounds == ROUNDS_BEFORE_DOUBT && self.smallest > large;
+            return match self.rounds {
+                ROUNDS_BEFORE_FIRST_DOUBT => self.smallest / 2 > large,
+                ROUNDS_BEFORE_DOUBT => self.smallest > large,
+                _ => self.smallest < large / CLOSED,
+            };
         }
         if self.rounds % ROUNDS_BETWEEN != 0 {
             return false;

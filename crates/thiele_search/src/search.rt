@@ -29,6 +29,7 @@ use row_bounds::Node;
 use row_bounds::multipliers::{self, Effort};
 use std::alloc::Allocator;
 use thiele_bounds::{AGAIN, HitSums, NODE, PriceSearch, Priced, pairs};
+use tie_search::Ranked;
 use tie_search::descent::{Narrowing, Plan};
 use tie_walk::Tally;
 
@@ -47,7 +48,7 @@ pub(crate) struct Aids<A: Allocator> {
 impl<'a, A: Allocator + Copy> ThieleSearch<'a, A> {
     /// The free candidates of a node that can still join, by the gains of its set or of a set with fewer members.
     /// Returns `None` only if no completion of the set reaches the value.
-    fn promising(&self, gains: &Worths, node: &Node, least: u128) -> Option<CandSet>
+    fn promising(&self, gains: &Ranked, node: &Node, least: u128) -> Option<CandSet>
         requires is_node { IsNode self.now.election.m node.now.set node.now.free }
         requires valued { IsValued self.now node.now.set node.now.value }
         requires gains { (n : ℕ) → has_member node.now.free n ≡ true
@@ -105,11 +106,7 @@ impl<'a, A: Allocator + Copy> ThieleSearch<'a, A> {
         if !uses.are_due() && node.left <= FEW_SEATS {
             return Some(node.free);
         }
-        let set = node.set.union(node.free);
-        let most = match &self.aids.columns {
-            Some(columns) => columns.covered(set) as u128,
-            None => self.values.value(set),
-        };
+        let most = self.value(node.set.union(node.free));
         uses.note((most >= least).then_some(node.free))
     }
 
@@ -186,19 +183,22 @@ impl<'a, A: Allocator + Copy> Narrowing for ThieleSearch<'a, A> {
         self.moves.enter(node.left);
         let free = self.eligible(node, least, NODE)?;
         let gains = self.gains_at(node.set, free);
-        let eligible = self.promising(&gains, &Node { free, ..*node }, least)?;
+        let due = least.saturating_sub(node.value);
+        let eligible = gains.members_for(free, node.left, due)?;
         Some(Plan {
             eligible,
             choices: eligible,
-            worths: gains,
-            due: least.saturating_sub(node.value),
+            worths: Ranked::by_worth(gains, eligible),
+            due,
             least,
         })
     }
 
     fn narrowed(&self, plan: &Plan, node: &Node, least: u128) -> Option<CandSet> {
-        let free = self.eligible(node, least, AGAIN)?;
-        self.promising(&plan.worths, &Node { free, ..*node }, least)
+        // Gains are known here, so what they rule out is left out before anything else is counted. In the other order,
+        // parties with noise took up to twice as long under `pav`.
+        let free = self.promising(&plan.worths, node, least)?;
+        self.eligible(&Node { free, ..*node }, least, AGAIN)
     }
 
     fn child(&self, plan: &Plan, node: &Node, next: u8) -> Node {

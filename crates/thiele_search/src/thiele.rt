@@ -142,7 +142,12 @@ impl<'a, A: Allocator + Copy> Tally for ThieleSearch<'a, A> {
     }
 
     fn value(&self, set: CandSet) -> u128 {
-        self.values.value(set)
+        match &self.aids.columns {
+            // Under `cc` it is the number of voters who approve a member. Counted row by row, long lists of ties took
+            // up to twice the instructions.
+            Some(columns) if self.values.rule() == ThieleRule::Cc => columns.covered(set) as u128,
+            _ => self.values.value(set),
+        }
     }
 
     fn bound(&self, c: u8, set: CandSet, left: u8) -> u128 {
