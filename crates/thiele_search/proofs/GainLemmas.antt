@@ -1,10 +1,12 @@
 -- The bound of a node by gains, under a Thiele rule.
-use Rattle.std.proofs.Common.{◌≡◌, ℕ, ◌+◌, ◌-◌, ◌^◌, ◌≤◌, ◌==◌, ◌||◌, ◌∙◌, Bool, true, false, List, [], ◌∷◌, ◌++◌, refl, sym, ap, arith, get_or, sum_by}
+use Rattle.std.proofs.Common.{◌≡◌, ℕ, ◌+◌, ◌-◌, ◌^◌, ◌≤◌, ◌==◌, ◌||◌, ◌∙◌, Bool, true, false, List, Option, [], ◌∷◌, ◌++◌, refl, sym, ap, arith, get_or, sum_by}
 use Rattle.std.proofs.lemmas.List.{append-nil}
 use Rattle.std.proofs.Math.Bool.{or-false, or_comm}
 use Rattle.std.proofs.lemmas.List.Folds.{list_any-append}
 use Rattle.ballot_base.specs.Limits.{most_members}
+use Rattle.std.specs.Prelude.{MatchOption}
 use Rattle.ballot_base.specs.CandSet.{common_members, has_member, with_member}
+use Rattle.ballot_base.specs.Worths.{AreTooLow, AreWanted}
 use Rattle.ballot_base.proofs.Increasing.{has_member-with_member}
 use Rattle.tie_walk.specs.Ceilings.{IsSubmodular, gain_at}
 use Rattle.ballot_base.specs.Ballots.{IsElection}
@@ -14,7 +16,9 @@ use Rattle.tie_walk.specs.Values.{Thiele, tally_value}
 use Rattle.tie_walk.proofs.Gains.{thiele-gain, thiele-most}
 use Rattle.tie_walk.proofs.TableLemmas.{increments_sum-most, sum-take-le}
 use Rattle.tie_walk.proofs.Submodular.{gains-bound, thiele_rule-submodular}
-use Rattle.row_bounds.specs.Completions.{IsCompletion, IsNode}
+use Rattle.row_bounds.specs.Completions.{IsCompletion, IsNode, IsOutOfReach}
+use Rattle.row_bounds.specs.Steps.Narrowed.{IsNarrowed}
+use Rattle.row_bounds.proofs.NarrowedLemmas.{narrowed-members}
 use Rattle.row_bounds.proofs.CompletionLemmas.{added, added-free, completion-members}
 use Rattle.thiele_search.specs.Steps.Aided.{IsValued}
 use Rattle.thiele_bounds.proofs.PairBounds.PairLemmas.{sum-less}
@@ -96,3 +100,13 @@ gains-pay tally set free left least value gains committee size is_node is high w
       node-gains V (thiele_rule-submodular tally.rule tally.k tally.election.rows size) (thiele-same (increments tally.rule tally.k) tally.election.rows) tally.election.m set free left committee is_node whole,
       sum-less (gain_at V set) (λ n. get_or gains n 0) more (λ n in_. high n (added-free tally.election.m set free left committee is_node whole n in_)),
     )
+
+-- who can be among the candidates that make up what is missing
+pub gains-narrow : (tally : Thiele) (set free : List ℕ) (left least value : ℕ) (gains : List ℕ) → IsValued tally set value → IsNode tally.election.m set free
+    → ((n : ℕ) → has_member free n ≡ true → gain_at (tally_value tally) set n ≤ get_or gains n 0) → (due : ℕ) → due ≡ least - value → (answer : Option (List ℕ))
+    → MatchOption answer (AreTooLow (λ n. get_or gains n 0) free left due) (AreWanted (λ n. get_or gains n 0) free left due)
+    → MatchOption answer (IsOutOfReach (tally_value tally) tally.election.m set free left least) (IsNarrowed (tally_value tally) tally.election.m set free left least)
+gains-narrow tally set free left least value gains valued is_node high due same answer are =
+    narrowed-members (tally_value tally) tally.election.m set free left least (λ n. get_or gains n 0) due valued.election.most is_node
+    (λ committee whole reaches. rw same (gains-pay tally set free left least value gains committee valued.size is_node valued.value_is high whole reaches))
+    answer are

@@ -42,6 +42,7 @@ HasSums tally sums = MatchOption sums ⊤ (λ given.
 -- the values are those of an election, and the aids are made from this election
 pub record IsAided {A : Type 0} (tally : Thiele) (aids : Aids A) : Type 0 where
   pub election : IsElection tally.election
+  pub some : 1 ≤ tally.k
   pub size : tally.k ≤ most_members
   pub clones : AreClones tally.election.m tally.election.rows aids.clones
   pub dominance : MatchOption aids.dominance ⊤ (IsDominance tally)

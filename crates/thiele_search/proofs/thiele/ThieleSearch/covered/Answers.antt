@@ -14,11 +14,10 @@ use Rattle.thiele_search.proofs.ColumnLemmas.{voters-rising}
 use Rattle.thiele_search.proofs.CoverLemmas.{columns-cover}
 use Rattle.thiele_search.proofs.WholeLemmas.{whole-none}
 use Rattle.thiele_search.proofs.thiele.ThieleSearch.covered.Goals as goal
-use Rattle.thiele_search.proofs.thiele.ThieleSearch.covered.Goals.{in-Some, in-None}
 
 pub value-most-requires : goal.value-most-requires
 value-most-requires g c =
-    rw (c.union-set.ensures, c.self.view_is) (IsIncreasing-either 1 c.args.self.now.election.m c.args.node.now.set c.args.node.now.free c.requires.is_node.set_within c.requires.is_node.free_within)
+    rw c.union.ensures (IsIncreasing-either 1 c.args.self.now.election.m c.args.node.now.set c.args.node.now.free c.requires.is_node.set_within c.requires.is_node.free_within)
 
 -- what is given if the condition holds is right, and nothing is right if it does not
 by-condition : (b : Bool) (free : List ℕ) (Out : Type 0) (Is : List ℕ → Type 0) → (b ≡ false → Out) → Is free → (answer : Option (List ℕ)) → answer ≡ then_some b free → MatchOption answer Out Is
@@ -31,24 +30,11 @@ returns g c =
     let node = c.args.node.now in
     let V = tally_value tally in
     let m = tally.election.m in
-    let aids = rw c.self.view_is at c.self.invariant in
-    let rule : tally.rule ≡ Cc = search rules in
-    let most : V c.union-set.result ≤ c.match-self.most = elim c.match-self.branch [
-      | in-Some w ↦
-          let kept : AreColumnsOf tally w.in-Some.columns.blocks.items w.in-Some.columns.weights = rw w.in-Some.is at aids.columns in
-          omega (
-            arith,
-            w.most-is,
-            columns-cover tally w.in-Some.columns.blocks.items w.in-Some.columns.weights c.union-set.result kept aids.size rule,
-            w.covered.ensures (voters_of tally.election.rows) kept.columns (voters-rising tally.election.m tally.election.rows aids.election.most aids.election.ballots),
-          )
-      | in-None w ↦ omega (arith, w.most-is, ap (λ (x : Thiele). tally_value x c.union-set.result) c.self.view_is, w.value-most.ensures)
-    ] in
     by-condition _ node.free (IsOutOfReach V m node.set node.free node.left c.args.least) (IsNarrowed V m node.set node.free node.left c.args.least)
     (λ short.
-    let low : c.match-self.most < c.args.least = leb-false c.args.least c.match-self.most short in
-    whole-none (increments tally.rule tally.k) tally.election.rows m node.set node.free c.union-set.result c.args.least
-    (λ n. ap (λ l. has_member l n) c.union-set.ensures ∙ has_member-either node.set node.free n)
-    (omega (arith, most, low)) node.left)
+    let low : c.value-most.result < c.args.least = leb-false c.args.least c.value-most.result short in
+    whole-none (increments tally.rule tally.k) tally.election.rows m node.set node.free c.union.result c.args.least
+    (λ n. ap (λ l. has_member l n) c.union.ensures ∙ has_member-either node.set node.free n)
+    (omega (arith, c.value-most.ensures, low)) node.left)
     (narrowed-none V m node.set node.free node.left c.args.least c.requires.is_node)
     c.note.result (c.note.ensures ∙ c.then_some.ensures)
