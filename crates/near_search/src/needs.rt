@@ -18,6 +18,11 @@ pub(crate) fn still_needed(ballot: CandSet, node: &Node, most: u8) -> u8
 {
     // If no more hits come, the distance is the farthest. Each hit makes it less by two.
     let farthest = u16::from(ballot.distance(node.set)) + u16::from(node.left);
-    let excess = farthest.saturating_sub(u16::from(most));
+    let most = u16::from(most);
+    // So it is with most ballots. Without this, small elections took a tenth more instructions.
+    if farthest <= most {
+        return 0;
+    }
+    let excess = farthest - most;
     (excess / 2 + excess % 2) as u8
 }

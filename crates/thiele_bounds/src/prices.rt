@@ -81,7 +81,8 @@ impl<A: Allocator + Copy> PriceSearch<'_, A> {
     /// The prices at a node, by the present multipliers.
     fn prices(&self, node: &Node) -> Prices
         requires is_node { IsNode self.now.tally.now.election.m node.now.set node.now.free }
-        ensures totals { BoundNode self.now.given.now self.now.tally.now.election node.now result.kept result.worths [] }
+        ensures totals { BoundNode self.now.given.now self.now.tally.now.election node.now result.kept
+            result.worths [] }
         ensures kept { result.kept ≤ most_priced }
         ensures worths { (n : ℕ) → slice_index result.worths n ≤ most_priced }
     {
