@@ -1,4 +1,4 @@
-use Rattle.std.proofs.Common.{ℕ, ◌≤◌, ◌/◌, ◌<◌, List, refl, ap, arith, inl, inr, get_or, length, set, get_or-set_same, get_or-set_other, rules}
+use Rattle.std.proofs.Common.{◌/◌, refl, arith, rules}
 use Rattle.std.proofs.Math.Nat.{div-le_self}
 use Rattle.ballot_base.proofs.Sums.{replicate-most, set-most}
 use Rattle.near_search.proofs.weights.Shares.equal.Goals as goal

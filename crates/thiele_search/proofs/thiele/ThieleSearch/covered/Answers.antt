@@ -1,17 +1,13 @@
-use Rattle.std.proofs.Common.{rules, ◌≡◌, ◌<◌, ◌≤◌, ◌∙◌, ℕ, Bool, true, false, List, Option, refl, ap, arith, leb-false}
+use Rattle.std.proofs.Common.{◌≡◌, ◌<◌, ◌∙◌, ℕ, Bool, true, false, List, Option, refl, ap, arith, leb-false}
 use Rattle.std.specs.Prelude.{MatchOption}
 use Rattle.std.specs.Bool.{then_some}
-use Rattle.tie_walk.specs.Values.{Thiele, tally_value}
+use Rattle.tie_walk.specs.Values.{tally_value}
 use Rattle.row_bounds.specs.Completions.{IsOutOfReach}
 use Rattle.row_bounds.specs.Steps.Narrowed.{IsNarrowed}
 use Rattle.row_bounds.proofs.NarrowedLemmas.{narrowed-none}
 use Rattle.ballot_base.specs.CandSet.{has_member}
 use Rattle.ballot_base.specs.Increments.{increments}
 use Rattle.ballot_base.proofs.Increasing.{IsIncreasing-either, has_member-either}
-use Rattle.ballot_base.specs.declared.increments.ThieleRule.TheVariants.{Cc}
-use Rattle.thiele_search.specs.Steps.Columns.{AreColumnsOf, voters_of}
-use Rattle.thiele_search.proofs.ColumnLemmas.{voters-rising}
-use Rattle.thiele_search.proofs.CoverLemmas.{columns-cover}
 use Rattle.thiele_search.proofs.WholeLemmas.{whole-none}
 use Rattle.thiele_search.proofs.thiele.ThieleSearch.covered.Goals as goal
 
