@@ -3,9 +3,11 @@
 //! A search may list all committees with the highest value; then the list answers each question. Otherwise searches for
 //! more than the best known value are made until one finds nothing, and questions are answered by further searches.
 //!
-//! Before such a search, the committee found last is tried, after exchanges of clones. It is tested by its members and
-//! value, so any committee may be tried.
-ghost use Rattle.std.specs.Prelude.{◌≡◌, ◌+◌, ◌≤◌, true, length};
+//! Before such a search, two committees are tried: the one found last, after exchanges of clones, and the branch with
+//! the last candidates that are free. They are tested by their members and value, so any committees may be tried. If
+//! most committees tie, as they can under `cc`, the second one answers most questions. Without it, long lists took up to
+//! half as long again.
+ghost use Rattle.std.specs.Prelude.{◌≡◌, ◌+◌, ◌≤◌, true, length, Some};
 ghost use Rattle.ballot_base.specs.Limits.{most_candidates};
 ghost use Rattle.ballot_base.specs.Lists.{IsIncreasing};
 ghost use Rattle.tie_walk.specs.Winners.{best_value};
@@ -57,9 +59,12 @@ impl<S: Searchable> Best<S> {
             return (self.search.value(branch.set) >= self.value).then_some(branch.set);
         }
         let made = branch.exchanged(self.search.clones(), like);
-        let completes = made.len() == self.k && branch.is_completed_by(made);
-        if completes && self.search.value(made) >= self.value {
+        if self.wins(branch, made) {
             return Some(made);
+        }
+        let latest = branch.with_last(self.k);
+        if self.wins(branch, latest) {
+            return Some(latest);
         }
         // No other step searches.
         *asked = asked.saturating_add(1);
@@ -70,6 +75,18 @@ impl<S: Searchable> Best<S> {
             left: self.k - branch.set.len(),
         };
         self.search.find(&node, self.value)
+    }
+
+    /// Whether a set is a committee with the highest value that completes the branch.
+    fn wins(&self, branch: &Branch, set: CandSet) -> bool
+        requires knows { KnowsBest S.value_of S.class_of S.candidates self.now }
+        requires branch { IsBranchIn S.candidates self.now branch.now }
+        ensures { result ≡ true → IsAnswerIn S.value_of S.candidates self.now branch.now (Some set) }
+    {
+        if set.len() != self.k || !branch.is_completed_by(set) {
+            return false;
+        }
+        self.search.value(set) >= self.value
     }
 
     /// A committee of the list, which must have all. It may become one that completes the branch if clones take the
