@@ -1,44 +1,49 @@
-use Rattle.std.proofs.Common.{ℕ, ◌∙◌, List, Some, None, ap, get_or, refl}
+use Rattle.std.proofs.Common.{ℕ, ◌∙◌, List, ap, get_or, refl}
 use Rattle.tie_walk.specs.Values.{tally_value}
 use Rattle.row_bounds.specs.Completions.{IsOutOfReach}
-use Rattle.row_bounds.specs.Steps.Narrowed.{IsNarrowed}
-use Rattle.tie_search.proofs.DescentLemmas.{choice-of_all, narrowed-choice}
+use Rattle.row_bounds.specs.Steps.Narrowed.{IsNarrowed, Narrows}
 use Rattle.row_bounds.proofs.NarrowedLemmas.{narrowed-more, narrowed-out}
+use Rattle.tie_search.proofs.DescentLemmas.{choice-of_all, narrowed-choice}
 use Rattle.thiele_search.proofs.GainLemmas.{gain-same, gains-narrow}
 use Rattle.thiele_search.proofs.search.ThieleSearchNarrowing.plan.Goals as goal
+use Rattle.thiele_search.proofs.search.ThieleSearchNarrowing.plan.Goals.{After-members_for}
 
-pub returns : goal.returns
-returns g c =
+-- the free candidates that can still join by the tests that need no gains
+first : (g : _) (c : After-members_for g)
+    → IsNarrowed (tally_value c.args.self.now) c.args.self.now.election.m c.args.node.now.set c.args.node.now.free c.args.node.now.left c.args.least c.in_ok-free.free
+first g c = c.in_ok-free.ensures
+
+-- and by the gains
+second : (g : _) (c : After-members_for g) → Narrows (tally_value c.args.self.now) c.args.self.now.election.m record { set = c.args.node.now.set; value = c.args.node.now.value; free = c.in_ok-free.free; left = c.args.node.now.left } c.args.least c.members_for.result
+second g c =
     let tally = c.args.self.now in
-    let V = tally_value tally in
-    let m = tally.election.m in
     let node = c.args.node.now in
-    let least = c.args.least in
     let free = c.in_ok-free.free in
-    let eligible = c.in_ok-eligible.eligible in
     let gains = c.gains_at-gains.result in
-    let first : IsNarrowed V m node.set node.free node.left least free = c.in_ok-free.ensures in
-    let high = gain-same tally node.set free gains c.requires.node.valued.election first.is_node c.gains_at-gains.ensures in
-    let second : IsNarrowed V m node.set free node.left least eligible =
-    gains-narrow tally node.set free node.left least node.value gains c.requires.node.valued first.is_node high c.saturating_sub-due.result c.saturating_sub-due.ensures (Some eligible) c.in_ok-eligible.ensures in
-    let both : IsNarrowed V m node.set node.free node.left least eligible = narrowed-more V m node.set node.free free node.left least first eligible second in (
-      both,
-      narrowed-choice V m node.set node.free eligible node.left least both eligible (choice-of_all V m node.set eligible node.left least both.is_node c.requires.some),
-      (λ n is. ap (λ (worths : List ℕ). get_or worths n 0) c.by_worth.ensures ∙ c.gains_at-gains.ensures n (second.among n is)),
-      refl,
-    )
+    let valued = c.requires.node.valued in
+    let is_node = (first g c).is_node in
+    gains-narrow tally node.set free node.left c.args.least node.value gains valued is_node (gain-same tally node.set free gains valued.election is_node c.gains_at-gains.ensures)
+    c.saturating_sub-due.result c.saturating_sub-due.ensures c.members_for.result c.members_for.ensures
 
 pub returns-in_err-eligible : goal.returns-in_err-eligible
 returns-in_err-eligible g c =
     let tally = c.args.self.now in
-    let V = tally_value tally in
-    let m = tally.election.m in
     let node = c.args.node.now in
-    let least = c.args.least in
+    let at = (goal.at.returns-in_err-eligible g c).After-members_for in
+    rw c.from_residual-in_err-eligible.ensures (narrowed-out (tally_value tally) tally.election.m node.set node.free c.in_ok-free.free node.left c.args.least (first g at) (rw c.in_err-eligible.was at (second g at)))
+
+pub returns : goal.returns
+returns g c =
+    let V = tally_value c.args.self.now in
+    let m = c.args.self.now.election.m in
+    let node = c.args.node.now in
+    let at = (goal.at.returns g c).After-members_for in
     let free = c.in_ok-free.free in
-    let gains = c.gains_at-gains.result in
-    let first : IsNarrowed V m node.set node.free node.left least free = c.in_ok-free.ensures in
-    let high = gain-same tally node.set free gains c.requires.node.valued.election first.is_node c.gains_at-gains.ensures in
-    let out : IsOutOfReach V m node.set free node.left least =
-    gains-narrow tally node.set free node.left least node.value gains c.requires.node.valued first.is_node high c.saturating_sub-due.result c.saturating_sub-due.ensures None (rw c.in_err-eligible.was at c.members_for.ensures) in
-    rw c.from_residual-in_err-eligible.ensures (narrowed-out V m node.set node.free free node.left least first out)
+    let eligible = c.in_ok-eligible.eligible in
+    let fewer : IsNarrowed V m node.set free node.left c.args.least eligible = rw c.in_ok-eligible.was at (second g at) in
+    let both : IsNarrowed V m node.set node.free node.left c.args.least eligible = narrowed-more V m node.set node.free free node.left c.args.least (first g at) eligible fewer in (
+      both,
+      narrowed-choice V m node.set node.free eligible node.left c.args.least both eligible (choice-of_all V m node.set eligible node.left c.args.least both.is_node c.requires.some),
+      (λ n is. ap (λ (worths : List ℕ). get_or worths n 0) c.by_worth.ensures ∙ c.gains_at-gains.ensures n (fewer.among n is)),
+      refl,
+    )
