@@ -3,10 +3,9 @@
 //! A search may list all committees with the highest value; then the list answers each question. Otherwise searches for
 //! more than the best known value are made until one finds nothing, and questions are answered by further searches.
 //!
-//! Before such a search, two committees are tried: the one found last, after exchanges of clones, and the branch with
-//! the last candidates that are free. They are tested by their members and value, so any committees may be tried. If
-//! most committees tie, as they can under `cc`, the second one answers most questions. Without it, long lists took up to
-//! half as long again.
+//! Before such a search, two committees are tried: the one found last, after exchanges of clones, and the first one that
+//! completes the branch. They are tested by their members and value, so any committees may be tried. If most committees
+//! tie, as they can under `cc`, the second one is the next winner. Without it, long lists took up to twice as long.
 ghost use Rattle.std.specs.Prelude.{◌≡◌, ◌+◌, ◌≤◌, true, length, Some};
 ghost use Rattle.ballot_base.specs.Limits.{most_candidates};
 ghost use Rattle.ballot_base.specs.Lists.{IsIncreasing};
@@ -62,9 +61,9 @@ impl<S: Searchable> Best<S> {
         if self.wins(branch, made) {
             return Some(made);
         }
-        let latest = branch.with_last(self.k);
-        if self.wins(branch, latest) {
-            return Some(latest);
+        let first = branch.first(self.k);
+        if self.wins(branch, first) {
+            return Some(first);
         }
         // No other step searches.
         *asked = asked.saturating_add(1);

@@ -69,12 +69,10 @@ impl Branch {
         made
     }
 
-    /// The set with the last free candidates, as many as make a committee of `k`. The caller tests it, so any set would
-    /// do.
-    pub(crate) fn with_last(&self, k: u8) -> CandSet {
+    /// The first committee of `k` that completes the branch. The caller tests it, so any set would do.
+    pub(crate) fn first(&self, k: u8) -> CandSet {
         let left = k.saturating_sub(self.set.len());
-        let passed = first_of(self.free, self.free.len().saturating_sub(left));
-        self.set.union(self.free.minus(passed))
+        self.set.union(first_of(self.free, left))
     }
 }
 
