@@ -5,8 +5,8 @@
 //!
 //! Before such a search, two committees are tried: the one found last, after exchanges of clones, and the first one
 //! that completes the branch. They are tested by their members and value, so any committees may be tried. If most
-//! committees tie, as they can under `cc`, the second one is the next winner. Without it, long lists took up to twice as
-//! long.
+//! committees tie, as they can under `cc`, the second one is the next winner. Without it, long lists took up to twice
+//! as long.
 ghost use Rattle.std.specs.Prelude.{◌≡◌, ◌+◌, ◌≤◌, true, length, Some};
 ghost use Rattle.ballot_base.specs.Limits.{most_candidates};
 ghost use Rattle.ballot_base.specs.Lists.{IsIncreasing};
