@@ -1,14 +1,34 @@
 """Tests of table_to_cat, with real runs of the program: python3 -m unittest discover tools"""
+import importlib.machinery
+import importlib.util
+import io
 import os
 import re
+import resource
+import shutil
 import subprocess
 import sys
 import tempfile
 import unittest
+import zipfile
+from xml.sax.saxutils import escape
 
 HERE = os.path.dirname(os.path.realpath(__file__))
 sys.path.insert(0, HERE)
 from committees import InputRefused, check, elect  # noqa: E402
+
+
+def tool_module():
+    """The tool as a module."""
+    loader = importlib.machinery.SourceFileLoader("table_to_cat", os.path.join(HERE, "table_to_cat"))
+    module = importlib.util.module_from_spec(importlib.util.spec_from_loader(loader.name, loader))
+    # dataclasses look their module up
+    sys.modules[loader.name] = module
+    loader.exec_module(module)
+    return module
+
+
+tool = tool_module()
 
 # -S: the packages of the machine are not looked for, which takes half of the time
 TOOL = [sys.executable, "-S", os.path.join(HERE, "table_to_cat")]
@@ -22,14 +42,16 @@ def names_in(ballot_file):
 
 class TableTest(unittest.TestCase):
     def made(self, table, *words, **options):
+        """The status and what is printed, by a run of the tool."""
         data = table if isinstance(table, bytes) else table.encode()
         run = subprocess.run([*TOOL, *words], input=data, capture_output=True, **options)
         return run.returncode, run.stdout.decode(), run.stderr.decode()
 
     def taken(self, table, *words):
-        status, out, said = self.made(table, *words)
-        self.assertEqual(status, 0, said)
-        return out, said
+        """The ballot file and the summary."""
+        options = tool.options_of(words)
+        data = tool.bytes_of(options.file) if options.file else table if isinstance(table, bytes) else table.encode()
+        return tool.converted(data, options)
 
     def ballots(self, table, *words):
         return [line for line in self.taken(table, *words)[0].splitlines() if not line.startswith("#")]
@@ -42,11 +64,11 @@ class TableTest(unittest.TestCase):
         return [" ".join(line.split()) for line in self.taken(table, *words)[1].splitlines()]
 
     def refused(self, why, table, *words):
-        """Nothing is printed, so the program at the end of a pipe has no answer either."""
-        status, out, said = self.made(table, *words)
-        self.assertEqual((status, out), (1, ""), said)
-        self.assertTrue(said.startswith("table_to_cat: "), said)
+        with self.assertRaises(tool.Refused) as refusal:
+            self.taken(table, *words)
+        said = str(refusal.exception)
         self.assertIn(why, said)
+        self.assertEqual(len(said.splitlines()), 1, said)
         return said
 
     def with_file(self, text, call):
@@ -131,7 +153,7 @@ class Marks(TableTest):
         self.assertEqual(self.ballots("A,B\nyes,no\nYes,YES\n", "--yes", "yes"), ["1: {1},{2}", "1: {1,2},{}"])
         self.assertEqual(self.ballots("A,B\n1,0\n0,1\n", "--yes=1"), ["1: {1},{2}", "1: {2},{1}"])
         self.assertEqual(self.ballots("A,B\nx,ok\n", "--yes=x", "--yes=ok"), ["1: {1,2},{}"])
-        self.assertEqual(self.ballots('A;B\n1,00;0,00\n', "--yes=1,00", "--no=0,00"), ["1: {1},{2}"])
+        self.assertEqual(self.ballots("A;B\n1,00;0,00\n", "--yes=1,00", "--no=0,00"), ["1: {1},{2}"])
 
     def test_a_misspelt_mark_is_not_a_no(self):
         table = "Ada,Ben\nyes,no\nyess,yes\nyess,no\n"
@@ -200,8 +222,12 @@ class OneColumnOfNames(TableTest):
         self.assertEqual(self.names(FIVE, "--list=1"), ["Ada", "Ben", "Cleo", "Dan"])
 
     def test_empty_pieces_and_names_twice(self):
-        table = 'Choice\n"Ada;Ben;"\n";Ada;;Ben; Cleo ;"\n"Dan; ;"\nDan;Dan\n"Dan;Cleo;Dan;"\n'
-        self.assertEqual(self.ballots(f"sep=,\n{table}", "--list=1"), FIVE_BALLOTS)
+        table = 'sep=,\nChoice\n"Ada;Ben;"\n";Ada;;Ben; Cleo ;"\n"Dan; ;"\nDan\n"Dan;Cleo;"\n'
+        self.assertEqual(self.ballots(table, "--list=1"), FIVE_BALLOTS)
+        said = self.refused("row 4: a cell has the name 'Dan' twice", table.replace("Dan; ;", "Dan;Dan"), "--list=1")
+        self.assertIn("--candidates FILE", said)
+        twice = "Who\nLovelace, Ada, Lovelace, Bob\n"
+        self.refused("row 2: a cell has the name 'Lovelace' twice", f"sep=;\n{twice}", "--list=1")
 
     def test_ballots_that_name_candidates_in_another_order(self):
         names = [f"c{number}" for number in range(1, 41)]
@@ -362,10 +388,11 @@ class Summaries(TableTest):
             "table_to_cat: 4 voters, 2 candidates\n"
             "  2  for Ada\n"
             "  1  for Ben\n"
-            "  2  for no candidate (row 3, 5)\n"
+            "  2  for no candidate (rows 3, 5)\n"
             "  3  'yes', taken as a yes\n"
             "  4  'no', taken as a no\n"
-            "  1  blank row, not counted\n",
+            "  1  blank row, not counted\n"
+            "  not read: column 1 (Time)\n",
         )
 
     def test_names_and_counts(self):
@@ -445,9 +472,10 @@ class WebForms(TableTest):
             return self.exported([",".join(f'"{cell}"' for cell in first)], row, "\n").encode("utf-8-sig")
 
         codes = [f"Q1[SQ00{number}]" for number in range(1, 5)]
-        self.assertEqual(self.winners(table(codes, "Y", ""), "--skip=5"), ([{"Q1[SQ004]"}], 3))
+        self.assertEqual(self.winners(table(codes, "Y", ""), "--skip=5"), ([{"SQ004"}], 3))
         full = table([f"Whom do you approve? [{name}]" for name in names], "Yes", "No")
-        self.assertEqual(self.winners(full, "--skip=5", "--yes=yes"), ([{"Whom do you approve? [Dan]"}], 3))
+        self.dan_wins(full, "--skip=5", "--yes=yes")
+        self.assertIn("the names are the parts in brackets", self.taken(full, "--skip=5", "--yes=yes")[1])
         self.dan_wins(table(names, "Yes", "No"), "--skip=5", "--yes=Yes")
         self.assertIn("11 'No', taken as a no", self.summary(full, "--skip=5", "--yes=yes"))
 
@@ -483,6 +511,545 @@ class WebForms(TableTest):
             return f'"Nov {number}, 2026","{cell}"'
 
         self.dan_wins(self.exported(['"Submission Date","Which candidates do you approve of?"'], row, "\n"), "--list=2")
+
+
+class SeveralColumnsOfNames(TableTest):
+    DROP_DOWNS = "Time,C1,C2\n9:01,Ada,Ben\n9:02,Ada,\n9:03,Cleo,Ben\n"
+
+    def test_lists_are_joined(self):
+        for words in (["--list=C1", "--list=C2"], ["--list=2-3"], ["--list=2,3"], ["--list=2", "--list=c2"]):
+            self.assertEqual(self.winners(self.DROP_DOWNS, *words), ([{"Ada"}, {"Ben"}], 2))
+            self.assertEqual(self.ballots(self.DROP_DOWNS, *words), ["1: {1,2},{3}", "1: {1},{2,3}", "1: {2,3},{1}"])
+
+    def test_a_column_that_is_left_out_is_noticed(self):
+        said = self.summary(self.DROP_DOWNS, "--list=C1")
+        self.assertNotIn("2 cells of column 3 (C2) hold names of candidates", said)
+        said = self.summary(self.DROP_DOWNS.replace("9:02,Ada,", "9:02,Ben,Ada"), "--list=C1")
+        self.assertEqual(
+            said[-2:], ["3 cells of column 3 (C2) hold names of candidates", "not read: columns 1 (Time), 3 (C2)"]
+        )
+
+    def test_cells_that_a_separator_split(self):
+        table = "Time,Who,,\n9,Ada,Ben,Cleo\n9,Ben,,\n"
+        self.assertEqual(self.winners(table, "--list=2-4"), ([{"Ben"}], 2))
+        self.assertIn(
+            "by --list", self.refused("'Ben' stands in column 3, and the first row names 2", table, "--list=2")
+        )
+
+    def test_columns_with_the_name_of_a_candidate_or_nothing(self):
+        table = "Q1_1,Q1_2,Q1_3\nAda,,Cleo\n,Ben,Cleo\n,,\n"
+        self.assertEqual(self.winners(table, "--list=1-3"), ([{"Cleo"}], 2))
+        self.assertEqual(self.names(table, "--list=1-3"), ["Ada", "Cleo", "Ben"])
+
+    def test_an_own_answer_is_one_more_column(self):
+        table = "Ada,Ben,Other\nAda,Ben,\n,Ben,Zoe\nAda,,Zoe\n,,Zoe\n"
+        named = table.replace("Ada,Ben,Other", "Q [1],Q [2],Q [3]")
+        self.assertEqual(self.winners(named, "--list=1-3"), ([{"Zoe"}], 3))
+
+    def test_a_name_in_two_cells_counts_once(self):
+        table = "Time,C1,C2\n9:01,Ada,Ada\n9:02,Ben,Ada\n9:03,Ben,\n9:04,Ben,Ben\n"
+        self.assertEqual(self.winners(table, "--list=2-3"), ([{"Ben"}], 3))
+        self.assertIn("a name in two cells counts once: rows 2, 5", self.summary(table, "--list=2-3"))
+
+    def test_names_with_a_comma(self):
+        table = 'C1,C2\n"Lovelace, Ada","Babbage, Charles"\n"Lovelace, Ada",\n,Ben\n'
+        said = self.refused("it is not certain whether it separates names", table, "--list=1-2")
+        self.assertIn("--candidates FILE", said)
+
+        def won(path):
+            return self.winners(table, "--list=1-2", "--candidates", path)
+
+        listed = "Lovelace, Ada\nBabbage, Charles\nBen\n"
+        self.assertEqual(self.with_file(listed, won), ([{"Lovelace, Ada"}], 2))
+        one = 'C1\n"Lovelace, Ada"\n"Babbage, Charles"\n'
+        self.assertIn("cells with a `,` may hold one name with a `,` each", self.taken(one, "--list=1")[1])
+        self.assertNotIn("may hold one name", self.taken(FIVE, "--list=1")[1])
+        both = 'C1,C2\n"Ada, Ben","Cleo, Ada"\n"Ben, Cleo",\n'
+        self.assertEqual(self.winners(both, "--list=1-2"), ([{"Ben"}, {"Cleo"}], 2))
+
+    def test_a_column_twice(self):
+        self.refused("--list gives column 2 ('C1') twice", self.DROP_DOWNS, "--list=2", "--list=C1")
+        self.refused("--list gives column 2 ('C1') twice", self.DROP_DOWNS, "--list=1-2,2-3")
+
+
+class NotRead(TableTest):
+    def test_columns(self):
+        table = "Nr,Ada,Ben,Why\n7,x,,a\n8,x,x,b\n9,,x,\n"
+        self.assertEqual(self.summary(table, "--columns=2-3")[-1], "not read: columns 1 (Nr), 4 (Why)")
+        self.assertNotIn("not read", self.taken("Ada,Ben\nx,\n")[1])
+        self.assertNotIn("not read", self.taken("N,Mail,Ada\n2,a,x\n3,b,\n", "--count=1", "--once=2")[1])
+        self.assertEqual(self.summary("A\x1bB,Ada\n1,x\n", "--skip=1")[-1], "not read: column 1 ('A\\x1bB')")
+        self.assertEqual(self.summary(",Ada\n1,x\n,\n", "--skip=1")[-1], "not read: column 1")
+        self.assertNotIn("not read", self.taken(",Ada\n,x\n,\n", "--skip=1")[1])
+
+    def test_one_column_too_many_is_skipped(self):
+        table = "Nr,Ada,Ben\n1,x,\n2,x,x\n3,,x\n"
+        self.assertEqual(self.winners(table, "--skip=2"), ([{"Ben"}], 2))
+        noticed = ["2 cells of column 2 (Ada) hold marks that count elsewhere", "not read: columns 1 (Nr), 2 (Ada)"]
+        self.assertEqual(self.summary(table, "--skip=2")[-2:], noticed)
+        self.assertEqual(self.summary(table, "--skip=1")[-1], "not read: column 1 (Nr)")
+        digits = "Nr,Ada,Ben\n1,1,0\n2,1,1\n3,0,1\n"
+        noticed = ["3 cells of column 2 (Ada) hold marks that count elsewhere", "not read: columns 1 (Nr), 2 (Ada)"]
+        self.assertEqual(self.summary(digits, "--skip=2", "--yes=1")[-2:], noticed)
+        own = "Nr,Ada,Ben\n1,Ben,\n2,Ada,Ben\n3,,Ben\n"
+        noticed = "1 cell of column 2 (Ada) holds the name of a candidate"
+        self.assertIn(noticed, self.summary(own, "--skip=2"))
+
+    def test_a_name_that_a_separator_cut_off(self):
+        table = 'Time,Who,Comment\n9:01,Ada, Ben\n9:02,"Ada, Ben",\n9:03,Cleo,fine\n9:04,Cleo,"Ben;Ada, please"\n'
+        said = self.summary(table, "--list=2")
+        self.assertIn("2 cells of column 3 (Comment) hold names of candidates", said)
+        self.assertEqual(said[-1], "not read: columns 1 (Time), 3 (Comment)")
+
+    def test_a_cell_in_quotes_that_was_cut(self):
+        for first, last in ("''", '""', "‘’"):
+            for blank in (" ", "") if first != '"' else (" ",):
+                table = f"Time,Who,Comment\n9:00,Ben,\n9:01,{blank}{first}Ada, Ben{last}\n"
+                said = self.refused("row 3: ", table, "--list=2")
+                self.assertIn("in column 2 begins with a quote", said)
+                self.assertIn("in column 3 ('Comment') ends with one", said)
+        names = ["'t Hooft", "O'Ben", "Ben Jones'", 'Ben "the Big"']
+        quoted = [name.replace('"', '""') for name in names]
+        table = "Who,Why\n" + "".join(f'"{name}",because\n' for name in quoted)
+        self.assertEqual(self.names(table, "--list=1"), names)
+
+    def test_names_with_and_without_quotes(self):
+        for other in ("'Ada'", "'Ada", "“Ada”", '"Ada"'):
+            table = "Who\nAda\n" + '"' + other.replace('"', '""') + '"\n'
+            self.refused("the names differ only in case, in blanks, in quotes", table, "--list=1")
+
+
+class RefusedRows(TableTest):
+    def test_codes_of_qualtrics(self):
+        table = 'Q1,Q2\nWhom?,Why?\n"{""ImportId"":""QID1""}","{""ImportId"":""QID2_TEXT""}"\n"Ada,Ben",x\nBen,y\n'
+        self.refused("row 3 has codes of Qualtrics", table, "--list=1")
+        self.assertIn("--header-rows 3", self.refused("row 3", table, "--list=1", "--header-rows=2"))
+        self.assertEqual(self.winners(table, "--list=1", "--header-rows=3"), ([{"Ben"}], 2))
+
+    def test_codes_of_web_pages(self):
+        for code, sign in (("&#39;", "'"), ("&amp;", "&"), ("&quot;", '"'), ("&#x27;", "'"), ("&uuml;", "ü")):
+            said = self.refused(f"row 3: 'O{code}Ben", f"Who\nAda\nO{code}Ben;Ada\n", "--list=1")
+            self.assertIn(f"{code}, which stands for {sign!r}", said)
+            self.refused(f"column 2: 'O{code}Ben'", f"Ada,O{code}Ben\nx,\n")
+            self.with_file(
+                f"O{code}Ben\n", lambda path: self.refused("line 1", "Who\nx\n", "--list=1", "--candidates", path)
+            )
+        self.assertEqual(self.names("sep=,\nWho\nAT&T;R&D;Q&A\n", "--list=1"), ["AT&T", "R&D", "Q&A"])
+
+    def test_a_row_of_totals_by_its_word(self):
+        for word in ("Total", "TOTALS", "Sum", "Summe:", "Somme", "Grand total", "Total (votes)", "Sum of all votes"):
+            self.refused("row 4 looks like a row of totals", f"Name,Ada,Ben\na,x,\nb,x,\n{word},2,0\n", "--skip=1")
+            self.refused("row 3 looks like a row of totals", f"Name,Ada\na,x\n{word},1\n", "--skip=1", "--no=1")
+            self.refused("row 4 looks like", f"Name,N,Ada\na,2,x\nb,2,\n{word},4,2\n\n,,\n", "--count=2", "--skip=1")
+        table = "Name,Who\na,Ada\nTotal,1\n"
+        self.refused("row 3 looks like a row of totals", table, "--list=2")
+        for word in ("Totally", "Summer", "Some sum of what a voter has to say", "sum.total@example.org"):
+            self.assertEqual(self.ballots(f"Name,Ada,Ben\na,x,\n{word},,x\n", "--skip=1")[1], "1: {2},{1}")
+
+    def test_names_that_are_words_for_totals(self):
+        self.assertEqual(self.winners("Who\nTotal\nShell\nTotal\n", "--list=1"), ([{"Total"}], 2))
+        self.assertEqual(self.winners("Who\nShell\nDim Sum\n", "--list=1"), ([{"Shell"}, {"Dim Sum"}], 1))
+        self.assertEqual(self.ballots("Total,Ada\nTotal,\n"), ["1: {1},{2}"])
+        self.refused("row 4 looks like a row of totals", "Who\nAda\nBen\nTotal\n", "--list=1")
+
+    def test_a_row_of_totals_by_its_sums(self):
+        digits = "Name,Ada,Ben\na,1,0\nb,1,1\n"
+        for words in (["--yes=1"], ["--yes=1", "--no=0"], ["--yes=1", "--no=2", "--no=0"]):
+            self.refused("row 4 looks like a row of totals ('2', '1')", digits + ",2,1\n", "--skip=1", *words)
+            said = self.refused("row 4", digits + "Ergebnis,2,1\n", "--skip=1", *words)
+            self.assertNotIn("--no", said)
+        for mark, no in (("x", ""), ("yes", "no")):
+            table = f"Name,Ada,Ben\na,{mark},{no}\nb,{mark},{mark}\nc,{mark},{no}\n,3,1\n"
+            self.refused("row 5 looks like a row of totals", table, "--skip=1", f"--yes={mark}")
+        weighted = "N,Ada,Ben\n5,x,\n7,x,x\n12,12,7\n"
+        self.refused("row 4 looks like a row of totals", weighted, "--count=1", "--yes=x")
+        self.refused("row 4 looks like", "N,Who\n5,Ada\n7,Ben\n12,\n", "--count=1", "--list=2")
+        self.refused("row 4 looks like", "Time,Who\n9,Ada\n9,Ben\n,2\n", "--list=2")
+
+    def test_a_voter_who_looks_like_sums(self):
+        last = ["1: {1},{2}", "1: {1,2},{}"]
+        self.assertEqual(self.ballots("Ada,Ben\n1,0\n0,0\n1,1\n", "--yes=1")[-1], last[1])
+        self.assertEqual(self.ballots("Ada,Ben\n1,0\n1,1\n", "--yes=1"), last)
+        self.assertEqual(self.ballots("N,Ada,Ben\n3,x,\n4,,x\n8,x,x\n", "--count=1")[-1], "8: {1,2},{}")
+        self.assertEqual(self.ballots("N,Who\n3,Ada\n4,Ben\n2,\n", "--count=1", "--list=2")[-1], "2: {},{1,2}")
+
+    def test_a_candidate_named_no(self):
+        table = "Time,Ada,No\n9,yes,no\n9,yes,no\n"
+        self.refused("column 3 ('No'): its cells hold that word", table, "--skip=1", "--yes=yes")
+        self.assertEqual(self.winners(table, "--columns=Ada", "--yes=yes"), ([{"Ada"}], 2))
+        self.assertEqual(self.ballots("Yes,No\nyes,\n,no\n"), ["1: {1},{2}", "1: {2},{1}"])
+
+
+class SaidInALine(TableTest):
+    def test_each_row_names_all(self):
+        line = "each row names all candidates: if the question asked for a ranking, its order is lost"
+        self.assertIn(line, self.summary("Who\nAda;Ben\nBen;Ada\n".replace("Who", "sep=,\nWho"), "--list=1"))
+        self.assertIn(line, self.summary("Ada,Ben\nx,x\nx,x\n"))
+        for table in ("Who\nAda;Ben\n", "Who\nAda\nAda\n", "Who\nAda;Ben\nAda\n"):
+            self.assertNotIn(line, self.summary(f"sep=,\n{table}", "--list=1"))
+
+    def test_an_own_answer(self):
+        for heading in ("Other", "Other (please specify)", "Whom? [Other]", "Andere", "Autre :", "Sonstiges"):
+            ada, ben = ("Whom? [Ada]", "Whom? [Ben]") if "[" in heading else ("Ada", "Ben")
+            for yes, words in (("yes", ["--yes=yes"]), ("x", []), ("yes", [])):
+                table = f"{ada},{ben},{heading}\n{yes},,\n,{yes},Zoe\n"
+                said = self.refused("row 3, column 3", table, *words)
+                self.assertIn("'Zoe' is not a mark of other columns", said)
+                self.assertIn("give this column by --list", said)
+                self.assertNotIn("--yes", said)
+        named = "Ada,Ben,Other\nAda,,Zoe\n,Ben,Yves\n"
+        self.assertNotIn("--yes", self.refused("'Zoe' is not a mark of other columns", named))
+        self.assertEqual(self.ballots(named, "--columns=1-2"), ["1: {1},{2}", "1: {2},{1}"])
+        self.assertEqual(self.ballots("Ada,Other\nx,\n,x\n"), ["1: {1},{2}", "1: {2},{1}"])
+        self.assertEqual(self.ballots("Ada,Other\n,x\n"), ["1: {2},{1}"])
+
+
+class ChosenColumns(TableTest):
+    TABLE = "Time,Ada,Ben,Why,Cleo\n9,x,,because,x\n9,x,x,,\n"
+
+    def test_numbers_and_names(self):
+        for words in (
+            ["2,3,5"],
+            ["2-3,5"],
+            ["2-3", "5"],
+            ["Ada", "Ben", "Cleo"],
+            ["ada", " 3 , 5 "],
+            ["2 - 3", "cleo"],
+        ):
+            words = [word for column in words for word in ("--columns", column)]
+            self.assertEqual(self.ballots(self.TABLE, *words), ["1: {1,3},{2}", "1: {1,2},{3}"])
+        self.assertEqual(self.names(self.TABLE, "--columns=5,2"), ["Cleo", "Ada"])
+        self.assertEqual(self.ballots(self.TABLE, "--columns=5,2"), ["1: {1,2},{}", "1: {2},{1}"])
+
+    def test_what_fits_no_column(self):
+        for words in ("6", "0", "4-6", "0-3", "3-2", "2,6", "Zoe", "2-", "", ","):
+            self.refused("fits no column", self.TABLE, "--columns", words)
+        self.refused("--columns gives column 2 ('Ada') twice", self.TABLE, "--columns=2-3", "--columns=Ada")
+        self.refused("and numbers of columns: rename it", "2-3,Ada,Ben\n9,x,\n", "--columns=2-3")
+        self.refused("--columns and --count give the same column", "N,Ada\n2,x\n", "--columns=1-2", "--count=N")
+        self.refused("--columns and --once give the same column", "N,Ada\n2,x\n", "--columns=1-2", "--once=N")
+        self.refused("--count and --once give the same column", "N,Ada\n2,x\n", "--count=N", "--once=N")
+        self.refused("column 3 has no name", "N,Ada,\n2,x,x\n", "--columns=2-3")
+
+    def test_a_heading_with_a_comma(self):
+        table = '"Ada, Countess","Ben, Lord",N\nx,,1\nx,x,2\n'
+        self.assertEqual(self.names(table, "--columns=Ada, Countess", "--columns=2"), ["Ada, Countess", "Ben, Lord"])
+
+    def test_names_in_brackets(self):
+        table = "T,Vote [Ada Lovelace],Vote [Ben],Vote  [Cleo [chair]],Why [q]\n9,Yes,No,Yes,a\n9,Yes,Yes,No,b\n"
+        said = self.summary(table, "--columns=2-4", "--yes=yes")
+        self.assertIn("2 for Ada Lovelace", said)
+        self.assertIn("1 for Cleo [chair]", said)
+        self.assertIn("the names are the parts in brackets after Vote", said)
+        self.assertEqual(self.names(table, "--columns=Vote [Ada Lovelace]", "--yes=yes"), ["Ada Lovelace"])
+        self.refused("4 different marks", table, "--skip=1")
+        self.assertEqual(self.names("Ada [chair],Ben [chair]\nx,\n"), ["Ada [chair]", "Ben [chair]"])
+        self.assertEqual(self.names("Vote [Ada],Ben\nx,\n"), ["Vote [Ada]", "Ben"])
+        self.refused("column 2 repeats the name 'Ada'", "Vote [Ada],Vote [Ada]\nx,\n")
+        own = "Vote [Ada],Vote [Ben]\nAda,\n,Vote [Ben]\n"
+        self.assertEqual(self.ballots(own), ["1: {1},{2}", "1: {2},{1}"])
+
+    def test_a_second_row_with_the_names(self):
+        table = "Id,Whom?,,\n,Ada,Ben,Cleo\n1,x,,x\n2,,,x\n"
+        for words in (["--skip=1"], ["--columns=2-4"]):
+            self.assertEqual(self.winners(table, *words), ([{"Cleo"}], 2))
+            self.assertIn("row 2 has the names of the candidates", self.summary(table, *words))
+
+    def test_options_that_do_not_fit(self):
+        rows = (
+            ["--columns=1", "--skip=0"],
+            ["--list=1", "--columns=1"],
+            ["--skip=1", "--skip=1"],
+            ["--count=1", "--count=1"],
+            ["--once=1", "--once=1"],
+            ["--sheet=a", "--sheet=a"],
+            ["--header-rows=1", "--header-rows=1"],
+            ["--list=1", "--candidates=a", "--candidates=a"],
+            ["--blank-votes", "--blank-votes"],
+            ["--header-rows=0"],
+            ["--header-rows=x"],
+            ["--skip=-1"],
+            ["--skip=1.5"],
+        )
+        for words in rows:
+            status, out, said = self.made(self.TABLE, *words)
+            self.assertEqual((status, out), (2, ""), words)
+            self.assertIn(words[-1].partition("=")[0], said)
+
+
+class Once(TableTest):
+    def test_a_voter_who_stands_twice(self):
+        for other in ("ada@example.org", "ADA@Example.org", " ada@example.org\u00a0", "ada@example.org\u200b"):
+            table = f"Mail,Ada,Ben\nada@example.org,x,\nb,,x\n{other},x,x\n"
+            said = self.refused("the rows 2 and 4 have the same voter", table, "--once=Mail", "--columns=2-3")
+            self.refused("the rows 2 and 4", table, "--once=1")
+            self.assertEqual(len(said.splitlines()), 1)
+        names = "Mail,Who\na,Ada\nb,Ben\nA,Ada\n"
+        self.refused("the rows 2 and 4 have the same voter 'A'", names, "--once=1", "--list=2")
+        self.assertEqual(self.winners(names.replace("A,Ada", "c,Ben"), "--once=1", "--list=2"), ([{"Ben"}], 2))
+
+    def test_inner_blanks_count(self):
+        self.assertEqual(len(self.ballots("Name,Ada\nAnn A,x\nAnnA,\n", "--once=1")), 2)
+
+    def test_a_row_without_a_voter(self):
+        table = "Mail,Ada,Ben\na,x,\n,x,\n"
+        self.refused("row 3: column 1 ('Mail') is empty", table, "--once=1")
+        self.assertIn("1 blank row, not counted", self.summary("Mail,Ada,Ben\na,x,\n,,\n", "--once=1"))
+
+
+class HeaderRows(TableTest):
+    TABLE = "Ada,Ben\nWhom do you approve? - Ada,Whom? - Ben\nyes,no\nno,yes\n"
+
+    def test_rows_of_headings(self):
+        self.assertEqual(self.ballots(self.TABLE, "--header-rows=2", "--yes=yes"), ["1: {1},{2}", "1: {2},{1}"])
+        self.assertEqual(self.summary(self.TABLE, "--header-rows=2", "--yes=yes")[-1], "not read: row 2")
+        self.assertEqual(self.summary("A,B\n1,2\n3,4\nx,\n", "--header-rows=3")[-1], "not read: rows 2, 3")
+        self.assertEqual(self.ballots("A,B\nx,\n", "--header-rows=1"), ["1: {1},{2}"])
+
+    def test_too_many(self):
+        self.refused("no voter", self.TABLE, "--header-rows=4")
+        self.refused("the table has fewer than 5 rows", self.TABLE, "--header-rows=5")
+
+
+PARTS = "http://schemas.openxmlformats.org/package/2006"
+OFFICE = "http://schemas.openxmlformats.org/officeDocument/2006/relationships"
+CELLS = "http://schemas.openxmlformats.org/spreadsheetml/2006/main"
+STYLES = f"""<styleSheet xmlns="{CELLS}"><numFmts count="1"><numFmt numFmtId="170" formatCode="0 &quot;votes&quot;"/>
+</numFmts><fonts count="1"><font/></fonts><fills count="1"><fill><patternFill/></fill></fills><borders count="1"><border/></borders>
+<cellStyleXfs count="1"><xf/></cellStyleXfs><cellXfs count="4"><xf/><xf numFmtId="14"/><xf numFmtId="9"/>
+<xf numFmtId="170"/></cellXfs></styleSheet>"""
+# The styles of the cells of a workbook.
+DATE, PERCENT, VOTES = "1", "2", "3"
+
+
+def number(value, style="0"):
+    return f'<c r="{{}}" s="{style}"><v>{value}</v></c>'
+
+
+def formula(value=None):
+    return '<c r="{}"><f>A1</f>' + ("" if value is None else f"<v>{value}</v>") + "</c>"
+
+
+def error(text):
+    return f'<c r="{{}}" t="e"><v>{text}</v></c>'
+
+
+def cell_of(value, place):
+    """The XML of a cell: of a text, a number or a boolean, or as it is given."""
+    if isinstance(value, bool):
+        return f'<c r="{place}" t="b"><v>{int(value)}</v></c>'
+    if isinstance(value, int):
+        return number(value).format(place)
+    if value.startswith("<c "):
+        return value.format(place)
+    return f'<c r="{place}" t="inlineStr"><is><t xml:space="preserve">{escape(value)}</t></is></c>' if value else ""
+
+
+def sheet_xml(rows, merged, hidden):
+    lines = []
+    for number_of_row, row in enumerate(rows, 1):
+        cells = "".join(cell_of(value, f"{chr(65 + at)}{number_of_row}") for at, value in enumerate(row))
+        lines.append(
+            f'<row r="{number_of_row}"{" hidden=" + chr(34) + "1" + chr(34) if number_of_row in hidden else ""}>{cells}</row>'
+        )
+    areas = f'<mergeCells count="1"><mergeCell ref="{merged}"/></mergeCells>' if merged else ""
+    return f'<worksheet xmlns="{CELLS}"><sheetData>{"".join(lines)}</sheetData>{areas}</worksheet>'
+
+
+def workbook(*sheets, merged="", hidden=()):
+    """An .xlsx file. Its sheets are called Form1, Form2 and so on; only the first has merged cells and hidden rows."""
+    kind = "application/vnd.openxmlformats-officedocument.spreadsheetml"
+    numbers = range(1, len(sheets) + 1)
+    parts = {
+        "[Content_Types].xml": f'<Types xmlns="{PARTS}/content-types"><Default Extension="rels"'
+        ' ContentType="application/vnd.openxmlformats-package.relationships+xml"/>'
+        f'<Override PartName="/xl/workbook.xml" ContentType="{kind}.sheet.main+xml"/>'
+        f'<Override PartName="/xl/styles.xml" ContentType="{kind}.styles+xml"/>'
+        + "".join(f'<Override PartName="/xl/s{n}.xml" ContentType="{kind}.worksheet+xml"/>' for n in numbers)
+        + "</Types>",
+        "_rels/.rels": f'<Relationships xmlns="{PARTS}/relationships"><Relationship Id="r0"'
+        f' Type="{OFFICE}/officeDocument" Target="xl/workbook.xml"/></Relationships>',
+        "xl/_rels/workbook.xml.rels": f'<Relationships xmlns="{PARTS}/relationships">'
+        + "".join(f'<Relationship Id="r{n}" Type="{OFFICE}/worksheet" Target="s{n}.xml"/>' for n in numbers)
+        + f'<Relationship Id="r0" Type="{OFFICE}/styles" Target="styles.xml"/></Relationships>',
+        "xl/workbook.xml": f'<workbook xmlns="{CELLS}" xmlns:r="{OFFICE}"><sheets>'
+        + "".join(f'<sheet name="Form{n}" sheetId="{n}" r:id="r{n}"/>' for n in numbers)
+        + "</sheets></workbook>",
+        "xl/styles.xml": STYLES,
+    }
+    for n, rows in zip(numbers, sheets):
+        parts[f"xl/s{n}.xml"] = sheet_xml(rows, *((merged, hidden) if n == 1 else ("", ())))
+    made = io.BytesIO()
+    with zipfile.ZipFile(made, "w", zipfile.ZIP_DEFLATED) as file:
+        for name, text in parts.items():
+            file.writestr(name, text)
+    return made.getvalue()
+
+
+def python_with_openpyxl():
+    """An interpreter that has openpyxl, or None."""
+    for python in (sys.executable, shutil.which("python3", path=os.defpath)):
+        if python and subprocess.run([python, "-c", "import openpyxl"], capture_output=True).returncode == 0:
+            return python
+    return None
+
+
+class OtherSpreadsheets(TableTest):
+    """What is known of a file without openpyxl."""
+
+    def test_an_xlsx_file_without_openpyxl(self):
+        status, out, said = self.made(workbook([["Ada"], ["x"]]))
+        self.assertEqual((status, out), (1, ""))
+        self.assertIn("no openpyxl to read it: save it as CSV in UTF-8, or install openpyxl", said)
+
+    def named(self, ending, data):
+        with tempfile.TemporaryDirectory() as room:
+            path = os.path.join(room, f"votes{ending}")
+            with open(path, "wb") as file:
+                file.write(data)
+            return path, self.made("", path)
+
+    def zipped(self, *names):
+        made = io.BytesIO()
+        with zipfile.ZipFile(made, "w") as file:
+            for name in names:
+                file.writestr(name, "x")
+        return made.getvalue()
+
+    def test_kinds_that_are_not_read(self):
+        old = b"\xd0\xcf\x11\xe0\xa1\xb1\x1a\xe1" + bytes(100)
+        for data, kind in (
+            (old, ".xls"),
+            (self.zipped("mimetype", "content.xml"), ".ods"),
+            (self.zipped("Index/Document.iwa"), ".numbers"),
+            (self.zipped("Index.zip"), ".numbers"),
+        ):
+            said = self.refused(f"the table is an {kind} file, which is not read: save it as .xlsx", data)
+            self.assertIn("or as CSV in UTF-8", said)
+        for ending in (".xls", ".ods", ".numbers", ".XLS"):
+            _, (status, out, said) = self.named(ending, b"Ada,Ben\nx,\n")
+            self.assertEqual((status, out), (1, ""))
+            self.assertIn(f"the table is an {ending.lower()} file", said)
+
+    def test_files_that_are_not_whole(self):
+        for data in (b"Ada,Ben\nx,\n", b"", workbook([["Ada"], ["x"]])[:-30]):
+            _, (status, out, said) = self.named(".xlsx", data)
+            self.assertEqual((status, out), (1, ""))
+            self.assertIn("the table is not a whole .xlsx file", said)
+        for data in (self.zipped("a.txt"), workbook([["Ada"], ["x"]])[:200]):
+            self.refused("the table is not a whole .xlsx file", data)
+        self.refused("--sheet is for a workbook", "Ada\nx\n", "--sheet=Form1")
+        self.assertEqual(self.ballots("PK,Ada\n,x\n"), ["1: {2},{1}"])
+
+
+class Workbooks(TableTest):
+    @classmethod
+    def setUpClass(cls):
+        cls.python = python_with_openpyxl()
+        if not cls.python:
+            raise unittest.SkipTest("no interpreter has openpyxl")
+
+    def made(self, table, *words, **options):
+        run = subprocess.run([self.python, TOOL[-1], *words], input=table, capture_output=True, **options)
+        return run.returncode, run.stdout.decode(), run.stderr.decode()
+
+    def taken(self, table, *words):
+        status, out, said = self.made(table, *words)
+        self.assertEqual(status, 0, said)
+        return out, said
+
+    def refused(self, why, table, *words):
+        status, out, said = self.made(table, *words)
+        self.assertEqual((status, out), (1, ""), said)
+        self.assertEqual(len(said.splitlines()), 1, said)
+        self.assertIn(why, said)
+        return said
+
+    def test_texts_numbers_and_booleans(self):
+        day = number(46000, DATE)
+        rows = [["Time", "Ada", "Ben"], [day, 1, 0], [day, 1, 1], [day, number("1.0"), number("0.0")]]
+        self.assertEqual(self.ballots(workbook(rows), "--skip=1", "--yes=1"), ["2: {1},{2}", "1: {1,2},{}"])
+        rows = [["Ada", "Ben"], [True, False], [True, True]]
+        self.assertEqual(self.ballots(workbook(rows), "--yes=TRUE"), ["1: {1},{2}", "1: {1,2},{}"])
+        self.assertEqual(self.ballots(workbook([["Ada", "Ben"], ["Yes ", "no"]]), "--yes=yes"), ["1: {1},{2}"])
+        rows = [["Who", "N"], ["Ada;Ben;", 12], ["Ben;", 30], ["", 5]]
+        said = self.summary(workbook(rows), "--list=1", "--count=N")
+        self.assertEqual(said[1:], ["12 for Ada", "42 for Ben", "5 for no candidate (row 4)"])
+        self.assertEqual(self.names(workbook([["Day", 3, 4], ["a", "x", ""]]), "--skip=1"), ["3", "4"])
+
+    def test_a_file_and_a_pipe(self):
+        table = workbook([["Ada", "Ben"], ["x", ""]])
+        with tempfile.TemporaryDirectory() as room:
+            path = os.path.join(room, "votes.csv")
+            with open(path, "wb") as file:
+                file.write(table)
+            self.assertEqual(self.ballots(b"", path), self.ballots(table))
+
+    def test_kept_values_of_formulas(self):
+        self.assertEqual(self.ballots(workbook([["Ada", "Ben"], [formula(1), 0]]), "--yes=1"), ["1: {1},{2}"])
+        table = workbook([["Why", "Ada", "Ben"], [formula(), 1, ""], [formula(), formula(), 1]])
+        self.refused("cell B3 has a formula without a value", table, "--skip=1")
+        self.assertEqual(self.ballots(table, "--columns=3"), ["1: {},{1}", "1: {1},{}"])
+
+    def test_what_is_no_text_or_whole_number(self):
+        cases = (
+            (number("0.5"), "cell C3 has the fractional number 0.5"),
+            (number(46000, DATE), "cell C3 has a date or a time"),
+            (number(1, PERCENT), "cell C3 shows a number in the format 0%"),
+            (number(1, VOTES), "cell C3 shows a number in the format 0"),
+            (error("#N/A"), "cell C3 has the error #N/A"),
+        )
+        for cell, why in cases:
+            table = workbook([["Why", "Ada", "Ben"], ["a", "x", ""], [cell, "x", cell]])
+            self.refused(why, table, "--skip=1")
+            self.refused(why.replace("C3", "A3"), table, "--list=1")
+            self.assertEqual(self.ballots(table, "--columns=2"), ["2: {1},{}"])
+        self.refused("cell B1 has a date", workbook([["Why", number(46000, DATE)], ["a", "x"]]), "--skip=1")
+        left_out = workbook([["Ada"], [number("0.5")], ["x"]])
+        self.assertEqual(self.ballots(left_out, "--header-rows=2"), ["1: {1},{}"])
+
+    def test_merged_cells(self):
+        for merged in ("A1:B1", "B3:B4"):
+            table = workbook([["Why", "Ada"], ["a", "x"], ["b", "x"], ["c", ""]], merged=merged)
+            self.refused(f"the cells {merged} are merged", table, "--skip=1")
+
+    def test_sheets(self):
+        table = workbook([["Ada"], ["x"]], [["Ben"], ["x"]], [["Cleo"], ["x"]])
+        self.assertEqual(self.names(table), ["Ada"])
+        self.assertEqual(self.summary(table)[-1], "not read: sheets 'Form2', 'Form3'")
+        self.assertEqual(self.names(table, "--sheet=Form2"), ["Ben"])
+        said = self.refused(
+            "there is no sheet 'form2'; the workbook has 'Form1', 'Form2', 'Form3'", table, "--sheet=form2"
+        )
+        self.assertEqual(len(said.splitlines()), 1)
+        self.refused("the table is empty", workbook([]))
+        self.refused("the table is empty", workbook([[""], [" "]]))
+
+    def test_rows(self):
+        rows = [["Name", "Ada"], ["a", "x"], [], ["b", "x"], ["", ""], []]
+        self.assertIn("1 blank row, not counted", self.summary(workbook(rows), "--skip=1"))
+        said = self.summary(workbook(rows, hidden=(2, 6)), "--skip=1")
+        self.assertIn("1 hidden row, read like the others", said)
+        self.assertEqual(self.ballots(workbook([["Ada"], ["x"], [], ["x"], []]), "--blank-votes")[-1], "1: {},{1}")
+        self.refused("row 4: 'x' stands in column 3", workbook([["A", "B"], ["x"], [], ["", "", "x"]]))
+
+    def test_a_damaged_sheet(self):
+        whole = workbook([["Ada"], ["x"]])
+        made = io.BytesIO()
+        with zipfile.ZipFile(io.BytesIO(whole)) as parts, zipfile.ZipFile(made, "w") as file:
+            for name in parts.namelist():
+                text = parts.read(name)
+                file.writestr(name, text[: len(text) // 2] if name == "xl/s1.xml" else text)
+        self.refused("the .xlsx file cannot be read", made.getvalue())
+
+
+class LargeTables(TableTest):
+    def test_100000_rows(self):
+        rows = "".join(f"{at},{'x' * (at % 2)},{'x' * (at % 3 > 0)},,x\n" for at in range(100_000))
+        said = self.made(f"Time,Ada,Ben,Cleo,Dan\n{rows}", "--skip=1")[2]
+        self.assertIn("   50000  for Ada\n   66666  for Ben\n       0  for Cleo\n  100000  for Dan\n", said)
+        # in kilobytes, of the largest child so far
+        self.assertLess(resource.getrusage(resource.RUSAGE_CHILDREN).ru_maxrss, 200_000)
 
 
 class CommandLine(TableTest):
