@@ -754,6 +754,13 @@ class ChosenColumns(TableTest):
         for words in (["--skip=1"], ["--columns=2-4"]):
             self.assertEqual(self.winners(table, *words), ([{"Cleo"}], 2))
             self.assertIn("row 2 has the names of the candidates", self.summary(table, *words))
+        for words in (["--list=2-4"], ["--list=2"], ["--list=whom?"]):
+            self.refused("row 2 may name the columns, or be a voter", table, *words)
+        own = "Id,Whom?,,\n,Ada,Ben,Other\n1,Ada,,Zoe\n2,,,Zoe\n"
+        self.assertEqual(self.winners(own, "--list=2-4", "--header-rows=2"), ([{"Zoe"}], 2))
+        split = "Time,Whom?\n,Ada,Ben\n9,Ben,\n"
+        self.refused("row 2 may name the columns, or be a voter", split, "--list=2-3")
+        self.assertEqual(self.winners(split, "--list=2-3", "--header-rows=1"), ([{"Ben"}], 2))
 
     def test_options_that_do_not_fit(self):
         rows = (
@@ -815,8 +822,9 @@ PARTS = "http://schemas.openxmlformats.org/package/2006"
 OFFICE = "http://schemas.openxmlformats.org/officeDocument/2006/relationships"
 CELLS = "http://schemas.openxmlformats.org/spreadsheetml/2006/main"
 STYLES = f"""<styleSheet xmlns="{CELLS}"><numFmts count="1"><numFmt numFmtId="170" formatCode="0 &quot;votes&quot;"/>
-</numFmts><fonts count="1"><font/></fonts><fills count="1"><fill><patternFill/></fill></fills><borders count="1"><border/></borders>
-<cellStyleXfs count="1"><xf/></cellStyleXfs><cellXfs count="4"><xf/><xf numFmtId="14"/><xf numFmtId="9"/>
+</numFmts><fonts count="1"><font/></fonts><fills count="1"><fill><patternFill/></fill></fills>
+<borders count="1"><border/></borders><cellStyleXfs count="1"><xf/></cellStyleXfs>
+<cellXfs count="4"><xf/><xf numFmtId="14"/><xf numFmtId="9"/>
 <xf numFmtId="170"/></cellXfs></styleSheet>"""
 # The styles of the cells of a workbook.
 DATE, PERCENT, VOTES = "1", "2", "3"
@@ -847,11 +855,9 @@ def cell_of(value, place):
 
 def sheet_xml(rows, merged, hidden):
     lines = []
-    for number_of_row, row in enumerate(rows, 1):
-        cells = "".join(cell_of(value, f"{chr(65 + at)}{number_of_row}") for at, value in enumerate(row))
-        lines.append(
-            f'<row r="{number_of_row}"{" hidden=" + chr(34) + "1" + chr(34) if number_of_row in hidden else ""}>{cells}</row>'
-        )
+    for at, row in enumerate(rows, 1):
+        cells = "".join(cell_of(value, f"{chr(65 + column)}{at}") for column, value in enumerate(row))
+        lines.append(f'<row r="{at}" hidden="{int(at in hidden)}">{cells}</row>')
     areas = f'<mergeCells count="1"><mergeCell ref="{merged}"/></mergeCells>' if merged else ""
     return f'<worksheet xmlns="{CELLS}"><sheetData>{"".join(lines)}</sheetData>{areas}</worksheet>'
 
@@ -990,6 +996,9 @@ class Workbooks(TableTest):
         table = workbook([["Why", "Ada", "Ben"], [formula(), 1, ""], [formula(), formula(), 1]])
         self.refused("cell B3 has a formula without a value", table, "--skip=1")
         self.assertEqual(self.ballots(table, "--columns=3"), ["1: {},{1}", "1: {1},{}"])
+        empty = '<c r="{}" t="str"><f>A1</f><v></v></c>'
+        text = '<c r="{}" t="str"><f>A1</f><v>x</v></c>'
+        self.assertEqual(self.ballots(workbook([["Ada", "Ben"], [text, empty]])), ["1: {1},{2}"])
 
     def test_what_is_no_text_or_whole_number(self):
         cases = (
