@@ -512,6 +512,67 @@ class WebForms(TableTest):
 
         self.dan_wins(self.exported(['"Submission Date","Which candidates do you approve of?"'], row, "\n"), "--list=2")
 
+    def test_google_grids(self):
+        def row(number, names):
+            cells = ("Approve" if name in names else "" for name in ("Ada", "Ben", "Cleo", "Dan"))
+            return f"11/20/2026 19:4{number}:10,{','.join(cells)}"
+
+        heading = "Timestamp," + ",".join(f"Vote [{name}]" for name in ("Ada", "Ben", "Cleo", "Dan"))
+        self.dan_wins(self.exported([heading], row, "\r\n"), "--columns=2-5")
+
+    def test_typeform(self):
+        def row(number, names):
+            cells = ",".join(name if name in names else "" for name in ("Ada", "Ben", "Cleo", "Dan"))
+            return f"k{number}x,{cells},,completed,2026-11-20 19:40:02,,2026-11-20 19:42:10,8f3e,"
+
+        heading = (
+            "#,Ada,Ben,Cleo,Dan,Other,Response Type,Start Date (UTC),Stage Date (UTC),Submit Date (UTC),Network ID,Tags"
+        )
+        self.dan_wins(self.exported([heading], row, "\n"), "--columns=2-5")
+
+    def test_qualtrics(self):
+        before = ("StartDate", "EndDate", "Status", "IPAddress", "Progress", "ResponseId")
+
+        def headings(codes, texts):
+            ids = [f'"{{""ImportId"":""{code}""}}"' for code in (*before, *codes)]
+            return [",".join((*before, *codes)), ",".join((*before, *texts)), ",".join(ids)]
+
+        def row(number, cells):
+            return f"2026-11-20 12:40:02,2026-11-20 12:42:10,IP Address,127.0.0.1,100,R_{number}abc,{cells}"
+
+        def one(number, names):
+            return row(number, f'"{",".join(names)}"')
+
+        table = self.exported(headings(["Q1"], ["Which do you approve? - Selected Choice"]), one, "\n")
+        self.dan_wins(table, "--list=Q1", "--header-rows=3")
+
+        def split(number, names):
+            return row(number, ",".join(name if name in names else "" for name in ("Ada", "Ben", "Cleo", "Dan")))
+
+        codes = [f"Q1_{number}" for number in range(1, 5)]
+        table = self.exported(headings(codes, [f"Which? - {code}" for code in codes]), split, "\n")
+        self.dan_wins(table, "--list=7-10", "--header-rows=3")
+
+    def test_framadate(self):
+        def row(number, names):
+            cells = (
+                "Yes" if name in names else ("No", "Under reserve")[number % 2]
+                for name in ("Ada", "Ben", "Cleo", "Dan")
+            )
+            return f'"Voter {number}",{",".join(cells)},'
+
+        table = self.exported(['"",Ada,Ben,Cleo,Dan,'], row, "\n")
+        self.dan_wins(table, "--columns=2-5", "--yes=Yes", "--no=No", "--no=Under reserve")
+        self.refused("say whether each of these marks is a yes or a no", table, "--columns=2-5", "--yes=Yes")
+
+    def test_drupal(self):
+        def row(number, names):
+            cells = ",".join("X" if name in names else "" for name in ("Ada", "Ben", "Cleo", "Dan"))
+            return f"{number},10{number},Ballot,11/20/2026 - 19:40,11/20/2026 - 19:42,Anonymous,127.0.0.1,{cells}"
+
+        heading = "Serial number,SID,Submitted to,Created,Completed,Submitted by,IP address,Ada,Ben,Cleo,Dan"
+        self.dan_wins(self.exported([heading], row, "\n"), "--columns=8-11")
+
 
 class SeveralColumnsOfNames(TableTest):
     DROP_DOWNS = "Time,C1,C2\n9:01,Ada,Ben\n9:02,Ada,\n9:03,Cleo,Ben\n"
