@@ -176,7 +176,7 @@ class Marks(TableTest):
         self.refused("both --yes and --no name 'x'", "A,B\nx,o\n", "--yes=x", "--no=X")
 
     def test_an_only_mark_that_means_no(self):
-        for mark in ("no", "0", "-", "N"):
+        for mark in ("no", "0", "-", "N", "false", "Nein", "falsch", "non", "faux", "nee", "nej"):
             self.refused(f"say whether '{mark}' is a yes or a no", f"A,B\n{mark},{mark}\n")
             self.refused(f"say whether '{mark}' is a yes or a no", f"A,B\n{mark},?\n", "--no=?")
         self.assertEqual(self.ballots("A,B\n0,0\n", "--no=0"), ["1: {},{1,2}"])
@@ -256,10 +256,10 @@ class OneColumnOfNames(TableTest):
         self.assertEqual(self.names('Who\n"Weiss;Weiß"\n', "--list=1"), ["Weiss", "Weiß"])
 
     def test_other_joiners(self):
-        for joiner in ("/", " / ", "+", "&", "、", "┋"):
+        for joiner in ("/", " / ", "+", "&", "、", "┋", " and ", " und ", " - "):
             said = self.refused("holds the name 'Dan'", FIVE.replace(",", joiner), "--list=1")
             self.assertIn("--candidates FILE", said)
-        names = ["Anna-Lena", "Anna", "Anna (chair)", "R&B", "O'Ben", "Ben"]
+        names = ["Anna-Lena", "Anna", "Anna (chair)", "R&B", "O'Ben", "Ben", "Bread and Butter", "Ben-Ada"]
         self.assertEqual(self.names(f"Who\n{';'.join(names)}\n".replace("Who", "sep=,\nWho"), "--list=1"), names)
 
     def test_two_kinds_of_joiners(self):
@@ -340,7 +340,7 @@ class Counts(TableTest):
 
     def test_the_total(self):
         self.assertEqual(self.winners("N,Ada,Ben\n1,x,\n4294967295,,x\n", "--count=1"), ([{"Ben"}], 4294967295))
-        for count in ("4294967295", "4294967297", "9" * 5000):
+        for count in ("4294967295", "4294967297", "10000000000", "9" * 5000):
             table = f"N,Ada\n1,x\n1,\n{count},x\n"
             self.refused("row 4: with this row there are more than 4294967296", table, "--count=1")
 
@@ -699,11 +699,11 @@ class RefusedRows(TableTest):
 
     def test_a_row_of_totals_by_its_word(self):
         for word in ("Total", "TOTALS", "Sum", "Summe:", "Somme", "Grand total", "Total (votes)", "Sum of all votes"):
-            self.refused("row 4 looks like a row of totals", f"Name,Ada,Ben\na,x,\nb,x,\n{word},2,0\n", "--skip=1")
-            self.refused("row 3 looks like a row of totals", f"Name,Ada\na,x\n{word},1\n", "--skip=1", "--no=1")
+            self.refused("row 4 looks like totals", f"Name,Ada,Ben\na,x,\nb,x,\n{word},2,0\n", "--skip=1")
+            self.refused("row 3 looks like totals", f"Name,Ada\na,x\n{word},1\n", "--skip=1", "--no=1")
             self.refused("row 4 looks like", f"Name,N,Ada\na,2,x\nb,2,\n{word},4,2\n\n,,\n", "--count=2", "--skip=1")
         table = "Name,Who\na,Ada\nTotal,1\n"
-        self.refused("row 3 looks like a row of totals", table, "--list=2")
+        self.refused("row 3 looks like totals", table, "--list=2")
         for word in ("Totally", "Summer", "Some sum of what a voter has to say", "sum.total@example.org"):
             self.assertEqual(self.ballots(f"Name,Ada,Ben\na,x,\n{word},,x\n", "--skip=1")[1], "1: {2},{1}")
 
@@ -711,21 +711,25 @@ class RefusedRows(TableTest):
         self.assertEqual(self.winners("Who\nTotal\nShell\nTotal\n", "--list=1"), ([{"Total"}], 2))
         self.assertEqual(self.winners("Who\nShell\nDim Sum\n", "--list=1"), ([{"Shell"}, {"Dim Sum"}], 1))
         self.assertEqual(self.ballots("Total,Ada\nTotal,\n"), ["1: {1},{2}"])
-        self.refused("row 4 looks like a row of totals", "Who\nAda\nBen\nTotal\n", "--list=1")
+        self.refused("row 4 looks like totals", "Who\nAda\nBen\nTotal\n", "--list=1")
 
     def test_a_row_of_totals_by_its_sums(self):
         digits = "Name,Ada,Ben\na,1,0\nb,1,1\n"
         for words in (["--yes=1"], ["--yes=1", "--no=0"], ["--yes=1", "--no=2", "--no=0"]):
-            self.refused("row 4 looks like a row of totals ('2', '1')", digits + ",2,1\n", "--skip=1", *words)
+            self.refused("row 4 looks like totals ('2', '1')", digits + ",2,1\n", "--skip=1", *words)
             said = self.refused("row 4", digits + "Ergebnis,2,1\n", "--skip=1", *words)
             self.assertNotIn("--no", said)
         for mark, no in (("x", ""), ("yes", "no")):
             table = f"Name,Ada,Ben\na,{mark},{no}\nb,{mark},{mark}\nc,{mark},{no}\n,3,1\n"
-            self.refused("row 5 looks like a row of totals", table, "--skip=1", f"--yes={mark}")
+            self.refused("row 5 looks like totals", table, "--skip=1", f"--yes={mark}")
         weighted = "N,Ada,Ben\n5,x,\n7,x,x\n12,12,7\n"
-        self.refused("row 4 looks like a row of totals", weighted, "--count=1", "--yes=x")
+        self.refused("row 4 looks like totals", weighted, "--count=1", "--yes=x")
         self.refused("row 4 looks like", "N,Who\n5,Ada\n7,Ben\n12,\n", "--count=1", "--list=2")
         self.refused("row 4 looks like", "Time,Who\n9,Ada\n9,Ben\n,2\n", "--list=2")
+
+    def test_a_first_row_of_totals(self):
+        for table in ("Name,Ada,Ben\nTotal,2,0\na,x,\nb,x,\n", "Name,Ada,Ben\n,2,0\na,x,\nb,x,\n"):
+            self.refused("row 2 looks like totals", table, "--skip=1", "--yes=x")
 
     def test_a_voter_who_looks_like_sums(self):
         last = ["1: {1},{2}", "1: {1,2},{}"]
