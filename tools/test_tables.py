@@ -704,7 +704,7 @@ class RefusedRows(TableTest):
             self.refused("row 4 looks like", f"Name,N,Ada\na,2,x\nb,2,\n{word},4,2\n\n,,\n", "--count=2", "--skip=1")
         table = "Name,Who\na,Ada\nTotal,1\n"
         self.refused("row 3 looks like totals", table, "--list=2")
-        for word in ("Totally", "Summer", "Some sum of what a voter has to say", "sum.total@example.org"):
+        for word in ("Totally", "Summer", "in sum I say no", "sum.total@example.org"):
             self.assertEqual(self.ballots(f"Name,Ada,Ben\na,x,\n{word},,x\n", "--skip=1")[1], "1: {2},{1}")
 
     def test_names_that_are_words_for_totals(self):
