@@ -733,6 +733,8 @@ class RefusedRows(TableTest):
 
     def test_a_voter_who_looks_like_sums(self):
         last = ["1: {1},{2}", "1: {1,2},{}"]
+        one = "Ada,Ben\nx,x\n1,1\n"
+        self.assertEqual(self.ballots(one, "--yes=x", "--no=1"), ["1: {1,2},{}", "1: {},{1,2}"])
         self.assertEqual(self.ballots("Ada,Ben\n1,0\n0,0\n1,1\n", "--yes=1")[-1], last[1])
         self.assertEqual(self.ballots("Ada,Ben\n1,0\n1,1\n", "--yes=1"), last)
         self.assertEqual(self.ballots("N,Ada,Ben\n3,x,\n4,,x\n8,x,x\n", "--count=1")[-1], "8: {1,2},{}")
