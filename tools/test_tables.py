@@ -724,6 +724,7 @@ class RefusedRows(TableTest):
             self.refused("row 5 looks like totals", table, "--skip=1", f"--yes={mark}")
         weighted = "N,Ada,Ben\n5,x,\n7,x,x\n12,12,7\n"
         self.refused("row 4 looks like totals", weighted, "--count=1", "--yes=x")
+        self.refused("row 4 looks like totals", weighted.replace("12,7", "2,1"), "--count=1", "--yes=x")
         self.refused("row 4 looks like", "N,Who\n5,Ada\n7,Ben\n12,\n", "--count=1", "--list=2")
         self.refused("row 4 looks like", "Time,Who\n9,Ada\n9,Ben\n,2\n", "--list=2")
 
@@ -738,7 +739,9 @@ class RefusedRows(TableTest):
         self.assertEqual(self.ballots("Ada,Ben\n1,0\n0,0\n1,1\n", "--yes=1")[-1], last[1])
         self.assertEqual(self.ballots("Ada,Ben\n1,0\n1,1\n", "--yes=1"), last)
         self.assertEqual(self.ballots("N,Ada,Ben\n3,x,\n4,,x\n8,x,x\n", "--count=1")[-1], "8: {1,2},{}")
-        self.assertEqual(self.ballots("N,Who\n3,Ada\n4,Ben\n2,\n", "--count=1", "--list=2")[-1], "2: {},{1,2}")
+        for count in (2, 6, 8):
+            table = f"N,Who\n3,Ada\n4,Ben\n{count},\n"
+            self.assertEqual(self.ballots(table, "--count=1", "--list=2")[-1], f"{count}: {{}},{{1,2}}")
 
     def test_a_candidate_named_no(self):
         table = "Time,Ada,No\n9,yes,no\n9,yes,no\n"
