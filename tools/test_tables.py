@@ -652,6 +652,9 @@ class NotRead(TableTest):
         digits = "Nr,Ada,Ben\n1,1,0\n2,1,1\n3,0,1\n"
         noticed = ["3 cells of column 2 (Ada) hold marks that count elsewhere", "not read: columns 1 (Nr), 2 (Ada)"]
         self.assertEqual(self.summary(digits, "--skip=2", "--yes=1")[-2:], noticed)
+        self.assertEqual(
+            self.summary(digits, "--skip=1", "--yes=1")[-2:], ["2 '0', taken as a no", "not read: column 1 (Nr)"]
+        )
         own = "Nr,Ada,Ben\n1,Ben,\n2,Ada,Ben\n3,,Ben\n"
         noticed = "1 cell of column 2 (Ada) holds the name of a candidate"
         self.assertIn(noticed, self.summary(own, "--skip=2"))
@@ -673,6 +676,8 @@ class NotRead(TableTest):
         quoted = [name.replace('"', '""') for name in names]
         table = "Who,Why\n" + "".join(f'"{name}",because\n' for name in quoted)
         self.assertEqual(self.names(table, "--list=1"), names)
+        for name, why in (("'Ada'", "the voters'"), ("'t Hooft", "'because'"), ("'t Hooft", "")):
+            self.assertEqual(self.names(f"Who,Why\n{name},{why}\n", "--list=1"), [name])
 
     def test_names_with_and_without_quotes(self):
         for other in ("'Ada'", "'Ada", "“Ada”", '"Ada"'):
