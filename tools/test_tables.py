@@ -624,7 +624,8 @@ class SeveralColumnsOfNames(TableTest):
         self.assertEqual(self.with_file(listed, won), ([{"Lovelace, Ada"}], 2))
         one = 'C1\n"Lovelace, Ada"\n"Babbage, Charles"\n'
         self.assertIn("cells with a `,` may hold one name with a `,` each", self.taken(one, "--list=1")[1])
-        self.assertNotIn("may hold one name", self.taken(FIVE, "--list=1")[1])
+        for certain in (FIVE, 'Who\n"Ada,"\n"Ben,"\n'):
+            self.assertNotIn("may hold one name", self.taken(certain, "--list=1")[1])
         both = 'C1,C2\n"Ada, Ben","Cleo, Ada"\n"Ben, Cleo",\n'
         self.assertEqual(self.winners(both, "--list=1-2"), ([{"Ben"}, {"Cleo"}], 2))
 
@@ -775,6 +776,8 @@ class SaidInALine(TableTest):
         named = "Ada,Ben,Other\nAda,,Zoe\n,Ben,Yves\n"
         self.assertNotIn("--yes", self.refused("'Zoe' is not a mark of other columns", named))
         self.assertEqual(self.ballots(named, "--columns=1-2"), ["1: {1},{2}", "1: {2},{1}"])
+        shared = "Ada,Ben,Other\nyes,no,\nno,maybe,maybe\n"
+        self.refused("say whether each of these marks is a yes or a no", shared, "--yes=yes")
         self.assertEqual(self.ballots("Ada,Other\nx,\n,x\n"), ["1: {1},{2}", "1: {2},{1}"])
         self.assertEqual(self.ballots("Ada,Other\n,x\n"), ["1: {2},{1}"])
 
@@ -1114,7 +1117,9 @@ class Workbooks(TableTest):
         self.assertIn("1 blank row, not counted", self.summary(workbook(rows), "--skip=1"))
         said = self.summary(workbook(rows, hidden=(2, 6)), "--skip=1")
         self.assertIn("1 hidden row, read like the others", said)
-        self.assertEqual(self.ballots(workbook([["Ada"], ["x"], [], ["x"], []]), "--blank-votes")[-1], "1: {},{1}")
+        shaped = '<c r="{}" s="1"/>'
+        table = workbook([["Ada"], ["x"], [], ["x"], [shaped], [shaped]])
+        self.assertEqual(self.ballots(table, "--blank-votes"), ["2: {1},{}", "1: {},{1}"])
         self.refused("row 4: 'x' stands in column 3", workbook([["A", "B"], ["x"], [], ["", "", "x"]]))
 
     def test_a_damaged_sheet(self):
