@@ -1120,6 +1120,8 @@ class Workbooks(TableTest):
         shaped = '<c r="{}" s="1"/>'
         table = workbook([["Ada"], ["x"], [], ["x"], [shaped], [shaped]])
         self.assertEqual(self.ballots(table, "--blank-votes"), ["2: {1},{}", "1: {},{1}"])
+        wide = workbook([["Ada"], ["x", '<c r="XFD2" s="1"/>'], *[["x"]] * 400])
+        self.refused("the sheet has the cells A1:XFD402, too many", wide)
         self.refused("row 4: 'x' stands in column 3", workbook([["A", "B"], ["x"], [], ["", "", "x"]]))
 
     def test_a_damaged_sheet(self):
