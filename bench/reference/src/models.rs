@@ -1,5 +1,5 @@
-//! Elections by chance. Most models are from Szufa, Faliszewski, Janeczko, Lackner, Slinko, Sornat and Talmon, How to
-//! Sample Approval Elections?, IJCAI 2022.
+//! Elections by chance. What is cited as Szufa et al. is Szufa, Faliszewski, Janeczko, Lackner, Slinko, Sornat and
+//! Talmon, How to Sample Approval Elections?, IJCAI 2022.
 use crate::random::Random;
 use std::f64::consts::TAU;
 use std::iter;
