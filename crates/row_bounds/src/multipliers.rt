@@ -22,6 +22,10 @@ use std::marker::Model;
 /// minute.
 const MOST_ROWS: usize = 8192;
 
+/// The maximum that a step moves a multiplier to. Without a maximum, weights of ballots under minimax grew until they
+/// were all alike.
+const MOST: u64 = 1 << 40;
+
 /// The pace of a step that closes the whole gap.
 pub const WHOLE: u64 = 1024;
 
@@ -215,7 +219,7 @@ impl Multiplier {
     fn moved(self, length: u64) -> Multiplier {
         let way = length.saturating_mul(self.direction.unsigned_abs());
         let now = if self.direction > 0 {
-            self.now.saturating_add(way)
+            self.now.saturating_add(way).min(MOST)
         } else {
             self.now.saturating_sub(way)
         };
@@ -258,17 +262,15 @@ impl<A: Allocator> Multipliers<A> {
         }
     }
 
-    /// The multiplier of a row. It is first moved to the range from `low` to `high`.
+    /// The number from `low` to `high` that is nearest to the multiplier of a row. The multiplier itself stays, since
+    /// the range is narrow if few seats are left, and other nodes need the multiplier as it was.
     pub fn within(&self, row: usize, low: u64, high: u64) -> u64
         ensures { result ≤ high }
     {
         let Some(row) = self.rows.get(row) else {
             return 0;
         };
-        let multiplier = row.get();
-        let now = multiplier.now.max(low).min(high);
-        row.set(Multiplier { now, ..multiplier });
-        now
+        row.get().now.max(low).min(high)
     }
 
     /// Turns the direction of a row to the hits that it lacks. Returns the square of the direction, or 0 if the
