@@ -22,7 +22,7 @@ pub struct MinimaxSearch<'a, A: Allocator + Copy = Global> {
     pub(crate) profile: &'a Profile<A>,
     clones: Clones,
     pub(crate) shares: Shares,
-    pub(crate) weights: Option<Multipliers<A>>,
+    pub(crate) weights: Multipliers<A>,
     // Where it pays to move weights, over all questions so far.
     pub(crate) moves: Moves,
 }
@@ -40,8 +40,8 @@ impl<'a, A: Allocator + Copy> Model for MinimaxSearch<'a, A> {
 const ROUND: u64 = 2;
 
 impl<'a, A: Allocator + Copy + Drop> MinimaxSearch<'a, A> {
-    /// Prepares a search among the committees of a profile's candidates. It takes at most 196,608 bytes, and a search
-    /// takes no more. A failed allocation leaves nothing.
+    /// Prepares a search among the committees of a profile's candidates. It takes 24 bytes for each different ballot,
+    /// and a search takes no more. A failed allocation leaves nothing.
     pub fn new(alloc: A, profile: &'a Profile<A>) -> Result<MinimaxSearch<'a, A>, AllocError>
         ensures { IfOk result (λ search. search ≡ profile.now) }
     {

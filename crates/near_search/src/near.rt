@@ -126,9 +126,10 @@ impl<A: Allocator + Copy> MinimaxSearch<'_, A> {
         if left < FEWEST_SEATS || choices.len() < FEWEST_CHOICES {
             return Weighing::Nothing;
         }
-        match &self.weights {
-            Some(weights) if self.moves.are_due(left) => Weighing::Moved(weights),
-            _ => Weighing::ByShare(&self.shares),
+        if self.moves.are_due(left) {
+            Weighing::Moved(&self.weights)
+        } else {
+            Weighing::ByShare(&self.shares)
         }
     }
 }

@@ -1,3 +1,2 @@
 pub mod Completions
-pub mod Limits
 pub mod Steps

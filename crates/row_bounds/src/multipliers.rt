@@ -5,10 +5,9 @@
 //! the candidates of the highest worths hit its ballot less often than they should, and falls if more often. One array
 //! has the multipliers of a whole search. They are changed in place and never restored when the search goes back: any
 //! multipliers are right, and the last ones are a good beginning for the next node. Nothing but their range is proved.
-ghost use Rattle.std.specs.Prelude.{◌≡◌, ℕ, List, ◌<◌, ◌≤◌, IfOk, MatchOption, length};
+ghost use Rattle.std.specs.Prelude.{◌≡◌, ℕ, List, ◌≤◌, IfOk, length};
 ghost use Rattle.ballot_base.specs.Limits.{most_candidates};
 ghost use Rattle.row_bounds.specs.Completions.{IsNode};
-ghost use Rattle.row_bounds.specs.Limits.{most_rows};
 ghost use Rattle.row_bounds.specs.Steps.Constraints.{IsConstraint};
 ghost use Rattle.row_bounds.specs.Steps.Narrowed.{Narrows};
 
@@ -17,10 +16,6 @@ use ballot_base::{CandSet, Worths};
 use std::alloc::{AllocError, Allocator};
 use std::cell::Cell;
 use std::marker::Model;
-
-/// The maximum number of rows with multipliers: with more different ballots, moving them brought nothing within a
-/// minute.
-const MOST_ROWS: usize = 8192;
 
 /// The maximum that a step moves a multiplier to. Without a maximum, weights of ballots under minimax grew until they
 /// were all alike.
@@ -240,17 +235,13 @@ impl<A: Allocator> Model for Multipliers<A> {
 }
 
 impl<A: Allocator + Copy + Drop> Multipliers<A> {
-    /// Takes memory for this many rows: 24 bytes each. All begin with this multiplier. Returns `None` if there are more
-    /// than `MOST_ROWS`.
-    pub fn of(alloc: A, rows: usize, first: u64) -> Result<Option<Multipliers<A>>, AllocError>
-        ensures { IfOk result (λ made. MatchOption made (most_rows < rows) (λ multipliers. multipliers ≡ rows)) }
+    /// Takes memory for this many rows: 24 bytes each. All begin with this multiplier.
+    pub fn of(alloc: A, rows: usize, first: u64) -> Result<Multipliers<A>, AllocError>
+        ensures { IfOk result (λ multipliers. multipliers ≡ rows) }
     {
-        if rows > MOST_ROWS {
-            return Ok(None);
-        }
-        Ok(Some(Multipliers {
+        Ok(Multipliers {
             rows: vec![in alloc; Cell::new(Multiplier::at(first)); rows]?,
-        }))
+        })
     }
 }
 

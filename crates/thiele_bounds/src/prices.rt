@@ -181,10 +181,10 @@ pub struct Priced<A: Allocator> {
 }
 
 impl<A: Allocator + Copy> Priced<A> {
-    /// Prices for the committees of `k`. They are low if no committee is much better than `good`. Returns `None` if
-    /// there is no memory for them.
+    /// Prices for the committees of `k`, by these multipliers. They are low if no committee is much better than `good`.
+    /// Returns `None` only if what hits give is too large, as under no rule.
     pub fn of(
-        memory: Option<Multipliers<A>>,
+        multipliers: Multipliers<A>,
         values: &ThieleTally<A>,
         k: u8,
         good: CandSet,
@@ -194,7 +194,6 @@ impl<A: Allocator + Copy> Priced<A> {
         requires k_is { k ≡ values.now.k }
         ensures { MatchOption result ⊤ (ArePrices values.now) }
     {
-        let multipliers = memory?;
         let given = HitSums::of(values.rule(), k, UNITS)?;
         let candidates = CandSet::all(values.m());
         let all = Node {

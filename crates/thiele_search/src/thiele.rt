@@ -29,7 +29,7 @@ pub struct SearchMemory<'a, A: Allocator + Copy = Global> {
     values: ThieleTally<'a, A>,
     k: u8,
     columns: Option<Columns<A>>,
-    multipliers: Option<Multipliers<A>>,
+    multipliers: Multipliers<A>,
 }
 
 impl<'a, A: Allocator + Copy> Model for SearchMemory<'a, A> {
@@ -41,8 +41,8 @@ impl<'a, A: Allocator + Copy> Model for SearchMemory<'a, A> {
 }
 
 impl<'a, A: Allocator + Copy + Drop> SearchMemory<'a, A> {
-    /// Takes at most 729,088 bytes. `k` is at least 1, and at most 40 and the number of candidates. A failed allocation
-    /// leaves nothing.
+    /// Takes 24 bytes for each different ballot, and at most 532,480 more. `k` is at least 1, and at most 40 and the
+    /// number of candidates. A failed allocation leaves nothing.
     pub fn new(
         alloc: A,
         profile: &'a Profile<A>,
@@ -111,8 +111,11 @@ impl<'a, A: Allocator + Copy + Drop> ThieleSearch<'a, A> {
         let good = search.grown(k);
         // No committee is worth more than all candidates together, so prices may have nothing to show.
         let is_best = search.value(good) == search.value(CandSet::all(profile.m()));
-        let multipliers = if is_best { None } else { memory.multipliers };
-        let priced = Priced::of(multipliers, &search.values, k, good);
+        let priced = if is_best {
+            None
+        } else {
+            Priced::of(memory.multipliers, &search.values, k, good)
+        };
         let aids = search.aids;
         let mut search = ThieleSearch {
             aids: Aids { priced, ..aids },
