@@ -48,7 +48,34 @@ class Elections(unittest.TestCase):
         self.assertEqual(answers.score, Fraction(77, 6))
         self.assertEqual(list(answers), [frozenset({1, 2, 3})])
         self.assertIs(answers.more, False)
-        self.assertEqual(list(answers), [])
+
+    def test_answers_are_read_once(self):
+        for limit in (None, 2):
+            answers = elect(BALLOTS, "cc", 2, limit=limit)
+            self.assertEqual(len(list(answers)), limit or 6)
+            for again in (iter, list, set, answers.__class__.all):
+                with self.assertRaisesRegex(committees.AlreadyRead, "already read"):
+                    again(answers)
+            with self.assertRaises(StopIteration):
+                next(answers)
+        nothing = elect(BALLOTS, "cc", 2, after=[3, 5])
+        self.assertEqual(nothing.all(), [])
+        with self.assertRaises(committees.AlreadyRead):
+            nothing.all()
+
+    def test_all(self):
+        ties = elect(BALLOTS, "cc", 2).all()
+        self.assertEqual((type(ties), ties[0], len(ties)), (list, frozenset({1, 4}), 6))
+        answers = elect(BALLOTS, "cc", 2)
+        next(answers)
+        with self.assertRaisesRegex(committees.AlreadyRead, "^1 of these answers were already read"):
+            answers.all()
+        # The rest can still be read.
+        self.assertEqual([sorted(tie) for tie in answers], [[1, 5], [2, 4], [2, 5], [3, 4], [3, 5]])
+        answers = elect(BALLOTS, "cc", 2)
+        answers.close()
+        with self.assertRaises(committees.CutOff):
+            answers.all()
 
     def test_sets(self):
         ties = [frozenset(tie) for tie in ({1, 4}, {1, 5}, {2, 4}, {2, 5}, {3, 4}, {3, 5})]
@@ -61,7 +88,9 @@ class Elections(unittest.TestCase):
         self.assertEqual(next(elect(profile, "cc", 2)), frozenset({0, 3}))
         self.assertEqual(list(elect(profile, "cc", 2, after={2, 3})), [frozenset({2, 4})])
         self.assertEqual(check(profile, "pjr", {0, 3, 5}).candidates, frozenset({0, 1}))
-        self.assertEqual(share(Profile([Voter({0}, 5), Voter({1}, 3), Voter({5}, 3)]), "adams", 2).__next__(), (1, 0, 0, 0, 0, 1))
+        self.assertEqual(
+            share(Profile([Voter({0}, 5), Voter({1}, 3), Voter({5}, 3)]), "adams", 2).__next__(), (1, 0, 0, 0, 0, 1)
+        )
 
     def test_pages(self):
         answers = elect(BALLOTS, "cc", 2, limit=2)
@@ -105,10 +134,6 @@ class Shares(unittest.TestCase):
         self.assertEqual(list(share([5, 3, 3], "adams", 2)), [(1, 0, 1), (1, 1, 0)])
         self.assertEqual(list(share((5, 3, 3), "smallestdivisors", 2, after=(1, 0, 1))), [(1, 1, 0)])
 
-    def test_names_of_methods(self):
-        for name, own in committees.METHODS.items():
-            self.assertEqual(list(share([53, 24, 23], name, 7)), list(share([53, 24, 23], own, 7)))
-
     def test_ballots(self):
         walks = os.path.join(TOP, "examples", "walks.soc")
         self.assertEqual(list(share(walks, "dhondt", 6)), [(3, 1, 2, 0)])
@@ -118,7 +143,9 @@ class Refusals(unittest.TestCase):
     def refused(self, kind, status, fault, line, call, *given, **options):
         with self.assertRaises(kind) as caught:
             list(call(*given, **options))
-        self.assertEqual((caught.exception.status, caught.exception.fault, caught.exception.line), (status, fault, line))
+        self.assertEqual(
+            (caught.exception.status, caught.exception.fault, caught.exception.line), (status, fault, line)
+        )
 
     def test_each_status(self):
         self.refused(committees.UsageRefused, 2, None, None, elect, BOARD, "borda", 2)
@@ -186,7 +213,9 @@ class Ends(unittest.TestCase):
 
 class Documents(unittest.TestCase):
     def test_the_examples_of_the_module(self):
-        self.assertEqual(doctest.testmod(committees).failed, 0)
+        found = doctest.testmod(committees)
+        self.assertEqual(found.failed, 0)
+        self.assertGreater(found.attempted, 20)
 
 
 if __name__ == "__main__":

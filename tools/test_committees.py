@@ -15,6 +15,7 @@ import unittest
 from collections import Counter
 from decimal import Decimal
 from fractions import Fraction
+from xml.etree import ElementTree
 
 HERE = os.path.dirname(os.path.realpath(__file__))
 TOP = os.path.dirname(HERE)
@@ -25,6 +26,50 @@ from test_answers import BALLOTS, BOARD, Profile, Voter, program_that  # noqa: E
 
 PARTIES = os.path.join(TOP, "examples", "parties.cat")
 WAITING = "exec sleep 60"
+# A script as a notebook would hold it. It uses each call, and is typed as strictly as mypy can.
+NOTEBOOK = f"""
+import sys
+from fractions import Fraction
+from typing import Any, Dict, FrozenSet, List, Tuple, Union
+
+from committees import AlreadyRead, Answers, Check, Paging, Reading, __version__
+from committees import analyze, approvals, check, compute, elect, metadata, score, share
+
+board = {BOARD!r}
+ballots = [({{"Ada", "Ben", "Cleo"}}, 7), ({{"Dan", "Eve"}}, 2), ({{"Finn"}}, 1)]
+numbered = [({{1, 2, 3}}, 7), ({{4, 5}}, 2), ({{6}}, 1)]
+
+by_name: Answers[FrozenSet[str]] = elect(ballots, "pav", 3, candidates=["Ada", "Ben", "Cleo", "Dan", "Eve", "Finn"])
+by_number: Answers[FrozenSet[int]] = elect(numbered, "pav", 3, limit=2, after=[1, 2, 3], timeout=60)
+of_a_file: Answers[FrozenSet[int]] = elect(board, "pav", 3)
+in_order: Answers[Tuple[str, ...]] = elect(board, "pav", 3, names=True)
+committees: List[FrozenSet[str]] = by_name.all()
+total: Union[Fraction, None] = by_name.score
+try:
+    by_name.all()
+except AlreadyRead as error:
+    print(error, file=sys.stderr)
+has_names = len(sys.argv) > 0
+either: Answers[Any] = elect(board, "cc", 2, names=has_names)
+seats: Answers[Dict[str, int]] = share({{"Greens": 53, "Blues": 24}}, "dhondt", 7)
+numbers: Answers[Tuple[int, ...]] = share([53, 24, 23], "dhondt", 7)
+either_seats: Answers[Any] = share([53, 24, 23], "dhondt", 7, names=has_names)
+report: Check[FrozenSet[str]] = check(ballots, "pjr", committees[0])
+first: Check[FrozenSet[int]] = check("pjr", board, {{1, 4, 6}})
+either_report: Check[Any] = check(board, "pjr", {{1, 4, 6}}, names=has_names)
+four: Dict[str, Check[Any]] = analyze(board, {{1, 4, 6}})
+exact: Fraction = score(ballots, "pav", {{"Ada", "Dan"}})
+distance: int = score(board, "minimax", {{1, 4}})
+other: Union[Fraction, int] = score(board, "av" if has_names else "minimax", [1])
+counts: Dict[Any, int] = approvals(board, names=True)
+ties: List[Any] = compute("cc", numbered, 2, resolute=False)
+way: Reading = {{"category": 2}}
+page: Paging = {{"limit": 2, "category": 2}}
+sixth: Check[FrozenSet[int]] = check(board, "jr", [6], **way)
+paged: List[FrozenSet[int]] = elect(board, "av", 1, **page).all()
+with open(board, "rb") as file:
+    print(metadata(file)[0][0], __version__, file=sys.stderr)
+"""
 
 
 def module(name):
@@ -60,9 +105,9 @@ class Ballots(unittest.TestCase):
             ([2, 1, 2], "candidate 2 stands there twice"),
             ([1, 1, 0], "0 is not a candidate"),
             ([0, 1, 0], "0 is not a candidate"),
-            ([1, 1], "twice: a ballot is a set of candidate numbers"),
+            ([1, 1], "candidate 1 stands there twice$"),
             ([True, False], "True is not a whole number"),
-            (["Ada"], "'Ada' is not a whole number"),
+            (["Ada"], "'Ada' is a name, and other candidates have numbers"),
             ([float("nan")], "nan is not a whole number"),
             ("1,2", "'1,2' is not a set of candidates"),
             (7, "7 is not a set of candidates"),
@@ -82,7 +127,7 @@ class Ballots(unittest.TestCase):
             self.assertEqual(str(error), "committees: ballot 3: NoSuchCandidate")
         with self.assertRaises(committees.InputRefused) as caught:
             elect([{1}, {65}], "av", 1)
-        self.assertEqual(str(caught.exception), "committees: ballots: TooManyCandidates")
+        self.assertEqual(str(caught.exception), "committees: ballot 2: TooManyCandidates")
         with self.assertRaises(committees.InputRefused) as caught:
             elect(b"# DATA TYPE: cat\n# NUMBER ALTERNATIVES: 3\n1: 4\n", "av", 1)
         self.assertEqual((caught.exception.line, caught.exception.ballot), (3, None))
@@ -155,7 +200,7 @@ class Votes(unittest.TestCase):
             self.assertEqual(list(share(votes, "dhondt", 7)), [(4, 2, 1)])
         pandas = module("pandas")
         series = pandas.Series([53, 24, 23], index=["Greens", "Blues", "Greys"])
-        self.assertEqual(list(share(series, "dhondt", 7)), [(4, 2, 1)])
+        self.assertEqual(list(share(series, "dhondt", 7)), [{"Greens": 4, "Blues": 2, "Greys": 1}])
         self.assertEqual(list(share(series.to_dict(), "dhondt", 7)), [{"Greens": 4, "Blues": 2, "Greys": 1}])
         with self.assertRaisesRegex(ValueError, "nan is not a whole number"):
             share(pandas.Series([5, None]), "dhondt", 7)
@@ -241,8 +286,6 @@ class OtherLibraries(unittest.TestCase):
         for given in (("av", BALLOTS, 1), ("adams", [1, 2], 2)):
             with self.assertRaisesRegex(ValueError, "resolute=True"):
                 compute(*given, resolute=True)
-        with self.assertRaisesRegex(TypeError, "threshold"):
-            compute("adams", [1, 2], 2, threshold=0.05)
         for votes in ([1, 2], {"A": 1, "B": 2}):
             with self.assertRaisesRegex(committees.UsageRefused, "'quota' for '--method"):
                 compute("quota", votes, 2)
@@ -411,24 +454,56 @@ class Types(unittest.TestCase):
         answers = elect(BOARD, "pav", 3)
         self.assertEqual(repr(answers), "<Answers: rule pav, size 3, score 77/6; 0 read, not at the end>")
         list(answers)
-        self.assertEqual(repr(answers), "<Answers: rule pav, size 3, score 77/6; 1 read, at the end>")
+        self.assertEqual(repr(answers), "<Answers: rule pav, size 3, score 77/6; 1 read, at the end: {1, 2, 3}>")
         with share([5, 3, 3], "adams", 2, limit=1) as answers:
             self.assertEqual(repr(answers), "<Answers: method adams, seats 2; 0 read, not at the end>")
             list(answers)
-            self.assertEqual(repr(answers), "<Answers: method adams, seats 2; 1 read, at the limit>")
+            self.assertEqual(repr(answers), "<Answers: method adams, seats 2; 1 read, at the limit: (1, 0, 1)>")
+        many = elect([{6, 5}, {4}, {3}, {2}, {1}], "av", 1)
+        list(many)
+        first = "rule av, size 1, score 1; 6 read, at the end"
+        self.assertEqual(repr(many), f"<Answers: {first}: {{1}}, {{2}}, {{3}}, {{4}}, {{5}}, ..>")
+        seats = share({"Greens": 1}, "adams", 2)
+        next(seats)
+        self.assertEqual(repr(seats), "<Answers: method adams, seats 2; 1 read, not at the end: {'Greens': 2}>")
         with elect(BALLOTS, "minimax", 2) as answers:
             pass
         self.assertRegex(repr(answers), "^<Answers: rule minimax, size 2, distance [0-9]; 0 read, closed>$")
+
+    def test_answers_in_a_notebook(self):
+        answers = elect([["<b>Ada</b>", "Ben & Cleo"]], "av", 1)
+        root = ElementTree.fromstring(answers._repr_html_())
+        self.assertEqual(
+            (root.tag, root.find("caption").text), ("table", "rule av, size 1, score 1; 0 read, not at the end")
+        )
+        self.assertEqual(list(root.iter("td")), [])
+        list(answers)
+        root = ElementTree.fromstring(answers._repr_html_())
+        self.assertEqual(root.find("caption").text, "rule av, size 1, score 1; 2 read, at the end")
+        self.assertEqual([cell.text for cell in root.iter("td")], ["{'<b>Ada</b>'}", "{'Ben & Cleo'}"])
+        self.assertEqual(len(list(root.iter("tr"))), 2)
 
     def test_mypy(self):
         mypy = shutil.which("mypy")
         if not mypy:
             self.skipTest("there is no mypy")
         with tempfile.TemporaryDirectory() as room:
-            for file in ("committees.py", "draw_committee"):
+            notebook = os.path.join(room, "notebook.py")
+            pathlib.Path(notebook).write_text(NOTEBOOK)
+            for file in ("committees.py", "draw_committee", notebook):
                 words = [mypy, "--strict", f"--cache-dir={room}", file]
-                run = subprocess.run(words, capture_output=True, text=True, cwd=HERE)
+                environment = {**os.environ, "MYPYPATH": HERE}
+                run = subprocess.run(words, capture_output=True, text=True, cwd=HERE, env=environment)
                 self.assertEqual(run.returncode, 0, run.stdout + run.stderr)
+
+    def test_the_notebook_runs(self):
+        found = {}
+        with contextlib.redirect_stderr(io.StringIO()) as said:
+            exec(compile(NOTEBOOK, "notebook", "exec"), found)
+        self.assertIn("1 of these answers were already read", said.getvalue())
+        self.assertEqual(found["committees"], [{"Ada", "Ben", "Cleo"}])
+        self.assertEqual((found["exact"], found["distance"], found["other"]), (9, 3, 7))
+        self.assertEqual(found["paged"], [{6}])
 
 
 if __name__ == "__main__":

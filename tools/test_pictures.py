@@ -183,7 +183,7 @@ class Ballots(unittest.TestCase):
                 text = b"# DATA TYPE: cat\n# NUMBER ALTERNATIVES: 2\n1: {1}\n" + ballot
                 status, svg, said = run("--rule=av", "--size=1", "--program", program, text=text)
                 self.assertEqual((status, svg), (1, b""))
-                self.assertEqual(said, "draw_committee: line 4: the ballot is not understood\n")
+                self.assertEqual(said, "draw_committee: standard input: line 4: the ballot is not understood\n")
 
     def test_an_answer_that_is_not_that_of_the_ballots(self):
         text = b"# DATA TYPE: cat\n# NUMBER ALTERNATIVES: 2\n1: {1}\n"
@@ -231,8 +231,8 @@ class Shapes(unittest.TestCase):
         shown = Shown("--rule", "av", "--size", "1", text=self.many(3, 3))
         self.assertEqual(shown.texts[:3], ["1", "2", "3"])
         self.assertEqual(len(shown.cells), 9)
-        odd = Shown("--rule", "av", "--size", "1", text=self.many(3, 3, ["<b>&\x1b[31m", "", "\"Ödön\"'"]))
-        self.assertEqual(odd.texts[:5], ["<b>&\ufffd[31m", "1", "2", "\"Ödön\"'", "3"])
+        odd = Shown("--rule", "av", "--size", "1", text=self.many(3, 3, ["<b>&\x1b[31m", "", '"Ödön"\'']))
+        self.assertEqual(odd.texts[:5], ["<b>&\ufffd[31m", "1", "2", '"Ödön"\'', "3"])
 
 
 class Refusals(unittest.TestCase):
