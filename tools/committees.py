@@ -299,16 +299,16 @@ class _Candidates:
 
     def number(self, candidate: Any) -> int:
         """The program's number of a candidate."""
-        if isinstance(candidate, str) and (self.by_name or self.names):
-            return self.number_of_name(candidate)
         if isinstance(candidate, str):
-            raise ValueError(f"{candidate!r} is a name, and other candidates have numbers")
+            return self.number_of_name(candidate)
         number = _whole(candidate)
         if number < self.first:
             raise ValueError(f"{number} is not a candidate: a ballot is a set of candidate numbers, from {self.first}")
         return number + 1 - self.first
 
     def number_of_name(self, name: str) -> int:
+        if not self.by_name and not self.names:
+            raise ValueError(f"{name!r} is a name, and other candidates have numbers")
         if name not in self.numbers:
             if not self.open:
                 raise ValueError(f"{name!r} is not a candidate")
@@ -330,9 +330,9 @@ class _Candidates:
             # A set has no order, so that of its names is taken.
             given = sorted(given) if isinstance(members, AbstractSet) else given
         numbers = sorted(map(self.number, given))
-        for number, following in zip(numbers, numbers[1:]):
-            if number == following:
-                raise ValueError(f"candidate {self.names_of([number])[0]} stands there twice")
+        if len(set(numbers)) < len(numbers):
+            double = next(number for number in numbers if numbers.count(number) > 1)
+            raise ValueError(f"candidate {self.names_of([double])[0]} stands there twice")
         return numbers
 
     def numbers_as(self, word: str, members: Any) -> List[int]:
@@ -543,11 +543,12 @@ def _candidates_of(profile: Any, candidates: Any) -> Tuple[_Candidates, Optional
     if hasattr(profile, "num_cand"):
         names = enumerate(map(str, getattr(profile, "cand_names", ())), 1)
         return _Candidates(0, names), _whole(profile.num_cand)
-    known = _Candidates(by_name=None)
+    if isinstance(candidates, Number):
+        return _Candidates(), _whole(candidates)
+    known = _Candidates(by_name=None if candidates is None else True)
     known.open = True
-    if candidates is None or isinstance(candidates, Number):
-        return known, None if candidates is None else _whole(candidates)
-    known.by_name = True
+    if candidates is None:
+        return known, None
     known.numbers_as("candidates", candidates)
     known.open = False
     return known, len(known.names)

@@ -79,8 +79,6 @@ class ByName(unittest.TestCase):
         self.assertEqual(
             elect([set()], "av", 1, candidates={"Cleo", "Ben", "Ada"}, names=True, limit=1).all(), [("Ada",)]
         )
-        # a number of candidates leaves some without a name
-        self.assertEqual(elect(ballots, "av", 5, candidates=5).all(), [{"Ada", "Ben", "Cleo", "4", "5"}])
 
     def test_after_speaks_in_names(self):
         pages = [elect(BALLOTS, "cc", 2, limit=2).all()]
@@ -147,6 +145,9 @@ class BadInput(unittest.TestCase):
             "ballot 3: 'Ada' is a name, and other candidates have numbers", elect, [{1}, set(), {"Ada"}], "av", 1
         )
         self.refused("ballot 1: 'Zoe' is not a candidate", elect, [{"Zoe"}], "av", 1, candidates=["Ada"])
+        # a number of candidates would leave some without a name
+        why = "ballot 1: 'Ada' is a name, and other candidates have numbers"
+        self.refused(why, elect, [{"Ada"}], "av", 1, candidates=2)
         self.refused(
             "ballot 2: 1 is not a name, and other candidates have names", elect, {("Ada",): 1, (1,): 2}, "av", 1
         )
