@@ -470,9 +470,7 @@ class _Input(NamedTuple):
         return self
 
     def named(self) -> _Input:
-        """This input with the names of its candidates."""
-        if self.rows is not None:
-            return self
+        """This input of a text with the names of its candidates."""
         kept = self.kept()
         with contextlib.suppress(OSError):  # the program reports it
             with io.BytesIO(kept.text or b"") if kept.path is None else open(kept.path, "rb") as lines:
@@ -485,7 +483,7 @@ class _Input(NamedTuple):
         if self.rows is not None:
             return self.election_of_rows(self.rows)
         kept = self.kept()
-        run = _start("elect", kept, reading, rule="av", size=1, limit=1)
+        run = _launch("elect", kept, reading, rule="av", size=1, limit=1)
         run.attempt(lambda: run.header(rule="av", size=1))
         text = kept.text or b""
         if kept.path is not None:
@@ -570,13 +568,11 @@ def _ballots(profile: Any, candidates: Any) -> _Input:
             highest, highest_at = numbers[-1], position
         rows.append((numbers, voters))
     known.open = False
-    if count is None:
-        count = highest
-    else:
-        highest_at = None
+    if count is not None:
+        highest, highest_at = count, None
     lines = [f"{voters}: {{{','.join(map(str, numbers))}}}\n" for numbers, voters in rows]
-    text = "".join([HEADER.format(count), *lines])
-    return _Input(known, text=text.encode(), rows=rows, size=count, highest_at=highest_at)
+    text = "".join([HEADER.format(highest), *lines])
+    return _Input(known, text=text.encode(), rows=rows, size=highest, highest_at=highest_at)
 
 
 def _refuse_candidates(candidates: Any) -> None:
@@ -789,7 +785,7 @@ class _Run:
         self.end()
 
 
-def _start(command: str, given: _Input, reading: Reading, **own: Any) -> _Run:
+def _launch(command: str, given: _Input, reading: Reading, **own: Any) -> _Run:
     """Starts the program with the options of one command and those of the reading."""
     ways = {name: reading.get(name) for name in ("kind", "category", "setsize", "classes")}
     options = {**own, **ways, "kind": ways["kind"] or given.kind}
@@ -981,7 +977,7 @@ def elect(
     rule = _own_name("rule", rule, profile, "elect(profile, rule, size)")
     given = _input(profile, names, reading)
     start = None if after is None else _joined(given.candidates.numbers_as("after", after))
-    run = _start("elect", given, reading, rule=rule, size=size, after=start, limit=limit)
+    run = _launch("elect", given, reading, rule=rule, size=size, after=start, limit=limit)
     header = run.attempt(lambda: run.header(rule=rule, size=size))
     return Answers(run, given.candidates.shown(names), header)
 
@@ -1081,12 +1077,12 @@ def share(
     parties = list(profile) if isinstance(profile, Mapping) and _is_votes(profile) else None
     if _is_votes(profile):
         _refuse_candidates(candidates)
-        votes = profile.values() if parties is not None else profile
+        votes = profile if parties is None else profile.values()
         given = _Input(_Candidates(), [f"--votes={_joined(votes)}"])
     else:
         given = _input(profile, names, reading)
     start = _seats_after(after, given, parties)
-    run = _start("share", given, reading, method=method, seats=seats, after=start, limit=limit)
+    run = _launch("share", given, reading, method=method, seats=seats, after=start, limit=limit)
     header = run.attempt(lambda: run.header(method=method, seats=seats))
     answer: Callable[[List[int]], Any] = tuple
     if names or parties is not None or given.candidates.by_name:
@@ -1186,7 +1182,7 @@ def analyze(
 
 
 def _checked(given: _Input, property: str, committee: List[int], names: bool, reading: Reading) -> Check[Any]:
-    run = _start("check", given, reading, property=property, committee=_joined(committee))
+    run = _launch("check", given, reading, property=property, committee=_joined(committee))
     return run.attempt(lambda: _report(run, property, given.candidates.shown(names)))
 
 
@@ -1402,14 +1398,8 @@ def compute(
         >>> compute("adams", [5, 3, 3], 2)
         [[1, 0, 1], [1, 1, 0]]
     """
-    _refuse_other_words(
-        resolute=resolute,
-        algorithm=algorithm,
-        lexicographic_tiebreaking=lexicographic_tiebreaking,
-        threshold=threshold,
-        tiesallowed=tiesallowed,
-        verbose=verbose,
-    )
+    _refuse_other_words(resolute=resolute, algorithm=algorithm, lexicographic_tiebreaking=lexicographic_tiebreaking)
+    _refuse_other_words(threshold=threshold, tiesallowed=tiesallowed, verbose=verbose)
     paging = Paging(candidates=candidates, kind=kind, category=category, setsize=setsize, classes=classes)
     paging.update({"program": program, "timeout": timeout, "after": after})
     paging["limit"] = _one_of(limit=limit, max_num_of_committees=max_num_of_committees)
@@ -1419,15 +1409,13 @@ def compute(
     if not isinstance(name, str) or given is None or size is None:
         raise TypeError("the order of arguments is compute(rule_id, profile, committeesize) or (method, votes, seats)")
     if _is_known("method", name) or _is_votes(given) and len(given) > 0:
-        return _compute_seats(given, name, size, parties, paging)
+        return _allocations(given, name, size, parties, paging)
     if parties is not None:
         raise ValueError(f"parties={parties!r} is refused: {name} is not a method for parties")
     return [set(committee) for committee in elect(given, name, size, **paging)]
 
 
-def _compute_seats(
-    votes: Any, method: str, seats: int, parties: Optional[Collection[Any]], paging: Paging
-) -> List[Any]:
+def _allocations(votes: Any, method: str, seats: int, parties: Optional[Collection[Any]], paging: Paging) -> List[Any]:
     allocations = share(votes, method, seats, **paging).all()
     if parties is not None and any(len(parties) < len(allocation) for allocation in allocations):
         raise ValueError(f"parties={parties!r} is refused: there are more parties")
@@ -1485,7 +1473,9 @@ class _CommandLine:
         if "votes" in self.options:
             return words, given
         if self.file_at is None or self.file_at >= len(self.words):
-            return words, given._replace(text=sys.stdin.buffer.read()).named()
+            with contextlib.suppress(OSError):  # the program reports it
+                given = given._replace(text=sys.stdin.buffer.read()).named()
+            return words, given
         given = given._replace(path=self.words[self.file_at]).named()
         if given.path is not None:
             return words, given._replace(path=None)
@@ -1541,17 +1531,18 @@ def main() -> int:
         if line.asks_for_help:
             return subprocess.call([_program(None), *line.words])
         found = _json(line)
-        with open(sys.stdout.fileno(), "wb", closefd=False) as output:
-            output.write(json.dumps(found, ensure_ascii=False, separators=(",", ":")).encode() + b"\n")
     except CommitteesError as error:
         print(error, file=sys.stderr)
         status = error.status or NO_STATUS
         return status if status > 0 else 128 - status
+    except KeyboardInterrupt:
+        return 130
+    try:
+        with open(sys.stdout.fileno(), "wb", closefd=False) as output:
+            output.write(json.dumps(found, ensure_ascii=False, separators=(",", ":")).encode() + b"\n")
     except OSError:
         print("committees: write failed", file=sys.stderr)
         return 6
-    except KeyboardInterrupt:
-        return 130
     return 0 if found.get("holds", True) else 1
 
 

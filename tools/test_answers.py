@@ -175,13 +175,26 @@ class Refusals(unittest.TestCase):
     def test_no_program(self):
         with self.assertRaises(committees.NoProgram):
             elect(BOARD, "av", 1, program="/no/such/program")
+        # as ./committees ends after a build that failed, and a shell without the program
+        for status in (125, 127):
+            with program_that(f"exit {status}") as program, self.assertRaises(committees.NoProgram):
+                elect(BOARD, "av", 1, program=program)
 
     def test_keywords(self):
         with self.assertRaisesRegex(TypeError, "check.*'limit'"):
             check(BOARD, "jr", [1], limit=2)
 
     def test_output_that_is_cut_off(self):
-        for lines in ["", "rule av\\n", UNFINISHED, UNFINISHED + "end", UNFINISHED + "mo"]:
+        other = ["rule av\\nsize 1\\nSCORE 7/1\\n1\\nend\\n", "rule pav\\nsize 1\\nscore 7/1\\n1\\nend\\n"]
+        for lines in [
+            "",
+            "rule av\\n",
+            UNFINISHED,
+            UNFINISHED + "end",
+            UNFINISHED + "mo",
+            UNFINISHED + "end\\n1\\n",
+            *other,
+        ]:
             with program_that(f"printf '{lines}'") as program, self.assertRaises(committees.CutOff, msg=lines):
                 list(elect(BALLOTS, "av", 1, program=program))
 

@@ -15,6 +15,7 @@ import unittest
 from collections import Counter
 from decimal import Decimal
 from fractions import Fraction
+from unittest import mock
 from xml.etree import ElementTree
 
 HERE = os.path.dirname(os.path.realpath(__file__))
@@ -152,6 +153,8 @@ class Texts(unittest.TestCase):
             kept = (io.BytesIO(data), io.StringIO(data.decode()))
             for profile in (data, bytearray(data), memoryview(data), binary, text, *kept):
                 self.assertEqual(list(elect(profile, "pav", 3)), [{1, 2, 3}], type(profile))
+        text = "# DATA TYPE: cat\n# NUMBER ALTERNATIVES: 2\n# ALTERNATIVE NAME 2: \udcff\n1: 2"
+        self.assertEqual(list(elect(io.StringIO(text), "av", 1, names=True)), [("\ufffd",)])
         self.assertTrue(check(b"\xef\xbb\xbf# NUMBER ALTERNATIVES: 1\n1: 1\n", "jr", [1], kind="toi"))
         self.assertEqual(list(share(pathlib.Path(PARTIES).read_bytes(), "dhondt", 3)), [(2, 1, 0)])
 
@@ -338,6 +341,19 @@ class Ends(unittest.TestCase):
                     self.assert_ended()
                     self.assertIsNotNone(held[0].__traceback__)
 
+    def test_an_interrupted_start_ends_its_process(self):
+        start = subprocess.Popen
+
+        def slow_start(*words, **options):
+            time.sleep(1)
+            return start(*words, **options)
+
+        with program_that(WAITING) as program, mock.patch.object(subprocess, "Popen", slow_start):
+            with self.interruption(Interrupted):
+                elect(BALLOTS, "av", 1, program=program)
+            time.sleep(1)  # until it has been started
+            self.assert_ended()
+
     def test_an_interrupted_answer_ends_its_run(self):
         # The second committee is printed in part when the read is interrupted: its rest would be another committee.
         script = f"printf 'rule av\\nsize 2\\nscore 7/1\\n1,2\\n1'\n{WAITING}"
@@ -397,7 +413,7 @@ class Ends(unittest.TestCase):
         first = next(answers)
         process = answers._run.process
         time.sleep(3)
-        for _ in range(100):
+        for _ in range(40):
             state = pathlib.Path(f"/proc/{process.pid}/stat").read_text()
             if ") Z " in state:
                 break
@@ -412,15 +428,16 @@ class Ends(unittest.TestCase):
             next(answers)
 
     def test_a_program_that_ended_in_time(self):
+        threads = len(os.listdir("/proc/self/task"))
         answers = elect(BALLOTS, "cc", 2, timeout=3)
         time.sleep(3.5)
         self.assertEqual(len(list(answers)), 6)
         self.assertEqual(len(list(elect(BALLOTS, "cc", 2, timeout=100))), 6)
         for _ in range(100):
-            if len(os.listdir("/proc/self/task")) == 1:
+            if len(os.listdir("/proc/self/task")) == threads:
                 break
             time.sleep(0.1)
-        self.assertEqual(len(os.listdir("/proc/self/task")), 1)
+        self.assertEqual(len(os.listdir("/proc/self/task")), threads)
 
     def test_what_is_not_a_timeout(self):
         for timeout in (-1, float("nan"), float("inf"), 10**7):

@@ -131,6 +131,14 @@ class Refusals(unittest.TestCase):
             own = subprocess.run([PROGRAM, *words], capture_output=True)
             self.assertEqual(run(*words), (2, own.stdout.decode(), own.stderr.decode()))
 
+    def test_input_that_cannot_be_read(self):
+        environment = {**os.environ, "PYTHONPATH": HERE}
+        for names in ([], ["--names"]):
+            words = [*COMMAND, "elect", "--rule=av", "--size=1", *names]
+            with open("/proc/self/mem", "rb") as unreadable:
+                done = subprocess.run(words, stdin=unreadable, capture_output=True, env=environment)
+            self.assertEqual((done.returncode, done.stdout, done.stderr), (6, b"", b"committees: read failed\n"))
+
     def test_output_that_is_not_taken(self):
         environment = {**os.environ, "PYTHONPATH": HERE}
         with open("/dev/full", "wb") as full:

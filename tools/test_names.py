@@ -51,6 +51,7 @@ class ByName(unittest.TestCase):
         self.assertEqual(elect(BALLOTS, "pav", 3, names=True).all(), [("Ada", "Ben", "Cleo")])
         self.assertEqual(elect([{"Ada", "Ben"}, {"Cleo"}], "cc", 2).all(), [{"Ada", "Cleo"}, {"Ben", "Cleo"}])
         self.assertEqual(compute("av", [["Ada"], ["Ada", "Ben"]], 1), [{"Ada"}])
+        self.assertEqual(elect([set(), ({"Ada"}, 2)], "av", 1).all(), [{"Ada"}])
 
     def test_names_are_numbered_in_the_order_of_first_appearance(self):
         ballots = [["Dan", "Ada"], ("Cleo", "Ben"), {"Eve", "Finn"}]
@@ -196,9 +197,10 @@ class BadInput(unittest.TestCase):
         self.assertEqual(error.ballot, 65)
         self.assertEqual(len(elect(names[:64], "av", 1).all()), 64)
         names = [f"candidate {number}" for number in range(1, 66)]
-        with self.assertRaisesRegex(committees.InputRefused, "^committees: ballots: TooManyCandidates$") as caught:
-            elect([{names[0]}], "av", 1, candidates=names)
-        self.assertIsNone(caught.exception.ballot)
+        for profile, candidates in [([{names[0]}], names), ([{2}], 65)]:
+            with self.assertRaisesRegex(committees.InputRefused, "^committees: ballots: TooManyCandidates$") as caught:
+                elect(profile, "av", 1, candidates=candidates)
+            self.assertIsNone(caught.exception.ballot)
 
     def test_a_file_that_is_not_there(self):
         self.refused(

@@ -86,7 +86,7 @@ class Scores(unittest.TestCase):
             io.BytesIO(text),
             BALLOTS,
             iter(BALLOTS),
-            dict(self.mapping()),
+            {frozenset(ballot): voters for ballot, voters in BALLOTS},
         ):
             self.assertEqual(score(profile, "pav", {1, 2, 4}), Fraction(25, 2))
         self.assertEqual(score(FROM_0, "pav", {0, 1, 3}), Fraction(25, 2))
@@ -95,9 +95,6 @@ class Scores(unittest.TestCase):
         self.assertEqual(score([{1}], "av", {2}, candidates=2), 0)
         self.assertEqual(score([({1}, 2), (set(), 5)], "sav", {1}), 2)
 
-    def mapping(self):
-        return [(frozenset(ballot), voters) for ballot, voters in BALLOTS]
-
     def test_ways(self):
         for options in ({}, {"setsize": 2}, {"classes": 2}, {"classes": 1, "kind": "toi"}):
             for answers in (elect(SONGS, "pav", 2, **options), elect(SONGS, "pav", 3, **options)):
@@ -105,16 +102,41 @@ class Scores(unittest.TestCase):
                 self.assertEqual(score(SONGS, "pav", winner, **options), answers.score, options)
         self.assertEqual(score(BOARD, "av", {6}, category=2), elect(BOARD, "av", 1, category=2).score)
         # the type is that of the extension
-        self.assertEqual(score(WALKS, "av", {3}), next(iter([approvals(WALKS)[3]])))
+        self.assertEqual(
+            [score(WALKS, "av", {candidate}) for candidate in (1, 2, 3, 4)], list(approvals(WALKS).values())
+        )
+
+    def test_the_type_of_a_file(self):
+        ballots = b"# NUMBER ALTERNATIVES: 3\n2: 2,1\n1: 3\n"
+        with tempfile.TemporaryDirectory() as room:
+            path = os.path.join(room, "votes.cat")
+            # The line goes before the extension, the last of two lines counts, and `kind` goes before all.
+            for text, options in [
+                (b"# data type: soi\n", {}),
+                (b"# DATA TYPE: cat\n# DATA TYPE: SOI\n", {}),
+                (b"", {"kind": "soi"}),
+            ]:
+                pathlib.Path(path).write_bytes(text + ballots)
+                self.assertEqual(approvals(path, setsize=2, **options), {1: 2, 2: 2, 3: 1})
+                self.assertEqual(elect(path, "av", 1, setsize=2, **options).score, 2)
 
     def test_a_pipe_keeps_its_type(self):
         with tempfile.TemporaryDirectory() as room:
             path = os.path.join(room, "votes.soi")
             os.mkfifo(path)
             text = b"# NUMBER ALTERNATIVES: 3\n2: 2,1\n1: 3\n"
-            for call, *given in [(score, "av", [2]), (lambda *given: approvals(*given)[2],), (elect_first, "av", 1)]:
+            for call in (
+                lambda: score(path, "av", [2]),
+                lambda: approvals(path)[2],
+                lambda: elect(path, "av", 1, names=True).score,
+            ):
                 threading.Thread(target=pathlib.Path(path).write_bytes, args=[text], daemon=True).start()
-                self.assertEqual(call(path, *given), 2)
+                self.assertEqual(call(), 2)
+            path = os.path.join(room, "votes.cat")
+            os.mkfifo(path)
+            text = b"# NUMBER ALTERNATIVES: 2\n2: {},{1}\n"
+            threading.Thread(target=pathlib.Path(path).write_bytes, args=[text], daemon=True).start()
+            self.assertEqual(approvals(path), {1: 0, 2: 0})
 
     def test_refusals(self):
         for rule in ("seqpav", "seqcc", "revseqpav", "SeqPAV"):
@@ -145,10 +167,6 @@ class Scores(unittest.TestCase):
             score(BOARD, "av", {1}, program="/no/such/program")
 
 
-def elect_first(path, rule, size):
-    return sum(elect(path, rule, size, names=True).score for _ in "1")
-
-
 class Approvals(unittest.TestCase):
     def test_mappings(self):
         self.assertEqual(list(approvals(BOARD).items()), [(1, 7), (2, 7), (3, 7), (4, 2), (5, 2), (6, 1)])
@@ -161,6 +179,7 @@ class Approvals(unittest.TestCase):
         self.assertEqual(approvals(BOARD, category=2)[6], 9)
         text = b"# DATA TYPE: cat\n# NUMBER ALTERNATIVES: 2\n# ALTERNATIVE NAME 1: A\n# ALTERNATIVE NAME 2: A\n1: 1\n"
         self.assertEqual(approvals(text), {1: 1, 2: 0})
+        self.assertEqual(approvals(text + b"7: {1},{2}\n2: {},{1}\n4: 2\n"), {1: 8, 2: 4})
         with self.assertRaisesRegex(ValueError, "^two candidates have the same name"):
             approvals(text, names=True)
 
