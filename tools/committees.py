@@ -1021,7 +1021,7 @@ def _seats_after(after: Any, given: _Input, parties: Optional[List[Any]]) -> Opt
 
 @overload
 def share(  # type: ignore[misc]
-    profile: Mapping[str, Any], method: str, seats: int, **keywords: Unpack[Paging]
+    profile: Union[Mapping[str, Any], NamedProfile], method: str, seats: int, **keywords: Unpack[Paging]
 ) -> Answers[Dict[str, int]]: ...
 
 

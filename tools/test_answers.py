@@ -198,6 +198,15 @@ class Refusals(unittest.TestCase):
             with program_that(f"printf '{lines}'") as program, self.assertRaises(committees.CutOff, msg=lines):
                 list(elect(BALLOTS, "av", 1, program=program))
 
+    def test_a_report_has_its_status(self):
+        violated = "violated jr\\nlevel 1\\ncandidates 1\\nvoters 1 of 1\\n1: 1\\n"
+        for lines, status, holds in [("holds\\n", 0, True), (violated, 1, False)]:
+            with program_that(f"printf '{lines}'; exit {status}") as program:
+                self.assertEqual(check(BALLOTS, "jr", [2], program=program).holds, holds)
+            for script in (f"printf '{lines}'; exit {1 - status}", f"printf '{lines}1: 2\\n'; exit {status}"):
+                with program_that(script) as program, self.assertRaises(committees.CutOff):
+                    check(BALLOTS, "jr", [2], program=program)
+
     def test_a_status_after_the_last_line(self):
         script = f"printf '{UNFINISHED}end\\n'\necho 'committees: write failed' >&2\nexit 6"
         with program_that(script) as program, self.assertRaises(committees.DeviceFailed):

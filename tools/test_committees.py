@@ -53,6 +53,7 @@ except AlreadyRead as error:
 has_names = len(sys.argv) > 0
 either: Answers[Any] = elect(board, "cc", 2, names=has_names)
 seats: Answers[Dict[str, int]] = share({{"Greens": 53, "Blues": 24}}, "dhondt", 7)
+of_ballots: Answers[Dict[str, int]] = share([({{"Greens"}}, 53), ({{"Blues"}}, 24)], "dhondt", 7)
 numbers: Answers[Tuple[int, ...]] = share([53, 24, 23], "dhondt", 7)
 either_seats: Answers[Any] = share([53, 24, 23], "dhondt", 7, names=has_names)
 report: Check[FrozenSet[str]] = check(ballots, "pjr", committees[0])
@@ -186,8 +187,15 @@ class Votes(unittest.TestCase):
         self.assertEqual(page, [{"Greens": 1, "Blues": 0, "Greys": 1}, {"Greens": 1, "Blues": 1, "Greys": 0}])
         self.assertEqual([list(allocation) for allocation in page], [list(votes), list(votes)])
         # the order of the mapping given as `after` does not matter
-        after = {"Greys": 1, "Blues": 0, "Greens": 1}
-        self.assertEqual(list(share(votes, "adams", 2, after=after)), page[1:])
+        votes = {"Greens": 6, "Blues": 3, "Greys": 3}
+        ties = [
+            {"Greens": 1, "Blues": 0, "Greys": 1},
+            {"Greens": 1, "Blues": 1, "Greys": 0},
+            {"Greens": 2, "Blues": 0, "Greys": 0},
+        ]
+        self.assertEqual(list(share(votes, "dhondt", 2)), ties)
+        after = {"Greys": 0, "Blues": 1, "Greens": 1}
+        self.assertEqual(list(share(votes, "dhondt", 2, after=after)), ties[2:])
         self.assertEqual(list(share({7: 2, None: 1}, "adams", 3)), [{7: 2, None: 1}])
         with self.assertRaises(committees.UsageRefused):
             share({}, "adams", 2)
@@ -434,10 +442,10 @@ class Ends(unittest.TestCase):
         self.assertEqual(len(list(answers)), 6)
         self.assertEqual(len(list(elect(BALLOTS, "cc", 2, timeout=100))), 6)
         for _ in range(100):
-            if len(os.listdir("/proc/self/task")) == threads:
+            if len(os.listdir("/proc/self/task")) <= threads:
                 break
             time.sleep(0.1)
-        self.assertEqual(len(os.listdir("/proc/self/task")), threads)
+        self.assertLessEqual(len(os.listdir("/proc/self/task")), threads)
 
     def test_what_is_not_a_timeout(self):
         for timeout in (-1, float("nan"), float("inf"), 10**7):

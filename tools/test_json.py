@@ -60,6 +60,7 @@ class Objects(unittest.TestCase):
         text += b"# ALTERNATIVE NAME 2: \xff\n# ALTERNATIVE NAME 4: \xc3\x96d\xc3\xb6n\n1: {1,2,3,4}\n"
         status, printed, said = run("elect", "--rule=av", "--size=4", "--names", text=text)
         self.assertEqual((status, said), (0, ""))
+        self.assertIn("Ödön", printed)
         self.assertEqual(json.loads(printed)["committees"], [['A; B\tC "d" \\', "\ufffd", "3", "Ödön"]])
 
     def test_names_from_a_pipe(self):
@@ -95,6 +96,11 @@ class Objects(unittest.TestCase):
         self.assert_printed(f"share --method dhondt --seats 3 --names {PARTIES}", dhondt)
         numbers = '{"method":"adams","seats":2,"parties":["1","2"],"allocations":[[1,1]],"more":false}'
         self.assert_printed("share --method adams --seats 2 --names --votes 5,3", numbers)
+        # Votes on the command line: no input is read.
+        words = [*COMMAND, "share", "--method=adams", "--seats=2", "--names", "--votes=5,3"]
+        process = subprocess.Popen(words, stdin=subprocess.PIPE, stdout=subprocess.PIPE, cwd=HERE)
+        self.assertEqual(process.wait(20), 0)
+        self.assertEqual(process.communicate()[0].decode(), f"{numbers}\n")
         none = '{"method":"adams","seats":2,"parties":[],"allocations":[],"more":false}'
         self.assert_printed("share --method adams --seats 2 --names --votes=5,3 --after 2,0", none)
 

@@ -66,6 +66,10 @@ def counts(path, kind, voters):
     return takes(MOST_VOTERS - voters) and not takes(MOST_VOTERS - voters + 1)
 
 
+def at(box):
+    return box.get("x"), box.get("y")
+
+
 class Elections(unittest.TestCase):
     def test_a_winner(self):
         shown = Shown(BOARD, "--rule", "pav", "--size", "3")
@@ -97,6 +101,17 @@ class Elections(unittest.TestCase):
             self.assertEqual((status, svg, said.count("\n")), (1, b"", 1), said)
         many = Shown("--rule", "av", "--size", "4", text=b"# DATA TYPE: cat\n# NUMBER ALTERNATIVES: 8\n1: {}\n")
         self.assertIn("More than 50 committees tie; this is the first.", many.texts)
+        for candidates, number in [(50, "50"), (51, "More than 50")]:
+            text = b"# DATA TYPE: cat\n# NUMBER ALTERNATIVES: %d\n1: {}\n" % candidates
+            shown = Shown("--rule", "av", "--size", "1", text=text)
+            self.assertIn(f"{number} committees tie; this is the first.", shown.texts)
+
+    def test_the_tie_that_is_asked_for(self):
+        text = b"# DATA TYPE: cat\n# NUMBER ALTERNATIVES: 5\n1: {}\n"
+        for committee in ("1,2,3", "1,2,5", "1,3,4", "2,3,4", "2,4,5", "3,4,5"):
+            shown = Shown("--rule", "av", "--size", "3", "--committee", committee, text=text)
+            self.assertEqual(shown.bold, committee.split(","))
+            self.assertIn("10 committees tie; this is the one asked for.", shown.texts)
 
     def test_rules_without_a_score(self):
         self.assertIn("seqpav, 1 seat: Ada.", Shown(BOARD, "--rule", "seqpav", "--size", "1", "--committee", "1").texts)
@@ -194,6 +209,22 @@ class Ballots(unittest.TestCase):
         self.assertEqual((status, svg), (1, b""))
         self.assertIn("were not read as the program reads them", said)
 
+    def test_a_report_that_is_not_that_of_the_ballots(self):
+        text = b"# DATA TYPE: cat\n# NUMBER ALTERNATIVES: 2\n1: {1}\n"
+        report = "violated jr\\nlevel 1\\ncandidates 1\\nvoters 1 of %s\\n1: 1\\n"
+        second = "[ $(echo >>$0.runs; wc -l <$0.runs) = 2 ]"
+        words = ["--property=jr", "--committee=2"]
+        for script, is_drawn in [
+            (f"printf '{report % 1}'; exit 1", True),
+            # The second run has another answer; both have more voters than there are.
+            (f"{second} && echo holds && exit 0; printf '{report % 1}'; exit 1", False),
+            (f"printf '{report % 7}'; exit 1", False),
+        ]:
+            with program_that(script) as program:
+                status, svg, said = run(*words, "--program", program, text=text)
+            self.assertEqual((status, svg != b""), (0, True) if is_drawn else (1, False))
+            self.assertEqual("were not read as the program reads them" in said, not is_drawn)
+
 
 class Shapes(unittest.TestCase):
     def many(self, voters, candidates, names=()):
@@ -219,11 +250,31 @@ class Shapes(unittest.TestCase):
         self.assertEqual(equal.labels, ["800 voters", "1 voter"])
         self.assertLess(equal.height, 700)
 
+    def test_small_groups_share_a_row(self):
+        # Of 42 groups of 1 to 42 voters, those of one and of two share a row. All voters approve candidate 7.
+        lines = [f"{n}: {{{''.join(f'{place + 1},' for place in range(6) if n >> place & 1)}7}}" for n in range(1, 43)]
+        text = "\n".join(["# DATA TYPE: cat", "# NUMBER ALTERNATIVES: 7", *lines]).encode()
+        shown = Shown("--rule", "av", "--size", "1", text=text)
+        self.assertEqual(shown.labels, [*(f"{n} voters" for n in range(3, 43)), "3 voters, 2 ballots"])
+        row = shown.cells[-7:]
+        widths = [
+            [
+                round(float(box.get("width")) / float(cell.get("width")), 2)
+                for box in shown.filled
+                if at(box) == at(cell)
+            ]
+            for cell in row
+        ]
+        self.assertEqual(widths, [[0.33], [0.67], [], [], [], [], [1]])
+
     def test_many_candidates_with_long_names(self):
         names = [f"Candidate {number} of a party with a very long name" for number in range(64)]
         shown = Shown("--rule", "av", "--size", "40", text=self.many(3, 64, names))
         self.assertEqual(len(shown.turned), 64)
         self.assertLessEqual(max(map(len, shown.turned)), 28)
+        names = ["Ada of the House of Elsewhere", "Ben of the House of Elsewher"]
+        shown = Shown("--rule", "av", "--size", "1", text=self.many(3, 2, names))
+        self.assertEqual(shown.turned, ["Ada of the House of Elsewh..", "Ben of the House of Elsewher"])
         self.assertLessEqual(shown.width, 1100)
         self.assertEqual(Shown(BOARD, "--rule", "av", "--size", "1").turned, [])
 

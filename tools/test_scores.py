@@ -144,6 +144,7 @@ class Scores(unittest.TestCase):
                 score(BALLOTS, rule, {1})
         for committee, why in [
             ({9}, "^committee: candidate 9 is not in the profile$"),
+            ({1, 7}, "^committee: candidate 7 is not in the profile$"),
             ({0}, "^committee: 0 is not a candidate"),
             ([1, 1], "^committee: candidate 1 stands there twice$"),
             ("Ada", "^committee: 'Ada' is not a set of candidates$"),
