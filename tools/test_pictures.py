@@ -2,9 +2,11 @@
 import os
 import pathlib
 import re
+import signal
 import subprocess
 import sys
 import tempfile
+import time
 import unittest
 from xml.etree import ElementTree
 
@@ -38,6 +40,7 @@ class Shown:
         self.height = int(root.get("height"))
         self.width = int(root.get("width"))
         self.size = len(svg)
+        self.title = root.find(f"{name}title").text
         self.texts = [element.text for element in root.iter(f"{name}text")]
         self.bold = [element.text for element in root.iter(f"{name}text") if element.get("font-weight")]
         self.turned = [element.text for element in root.iter(f"{name}text") if element.get("transform")]
@@ -75,6 +78,7 @@ class Elections(unittest.TestCase):
         shown = Shown(BOARD, "--rule", "pav", "--size", "3")
         self.assertEqual(shown.labels, ["7 voters", "2 voters", "1 voter"])
         self.assertEqual(shown.bold, ["Ada", "1", "Ben", "2", "Cleo", "3"])
+        self.assertEqual(shown.title, "The candidates that each voter approves, and the committee Ada, Ben, Cleo")
         self.assertEqual(len(shown.columns), 3)
         self.assertEqual(len(shown.cells), 18)
         # three by the first group, two by the second, one by the third
@@ -129,6 +133,7 @@ class Checks(unittest.TestCase):
         self.assertIn("Of the committee they approve only Ada.", shown.texts)
         ejr = Shown(BOARD, "--property", "EJR", "--committee", "6,4,1")
         self.assertIn("None of them approves 2 members of the committee.", ejr.texts)
+        self.assertTrue(ejr.title.endswith("the committee Ada, Dan, Finn"), ejr.title)
         jr = Shown(BOARD, "--property", "jr", "--committee", "4,5,6")
         self.assertIn("7 of 10 voters approve Ada: they deserve 1 of 3 seats.", jr.texts)
         self.assertIn("None of them approves a member of the committee.", jr.texts)
@@ -248,6 +253,7 @@ class Shapes(unittest.TestCase):
         self.assertIn("In a row of several ballots, blue is the share of the voters who approve.", shown.texts)
         equal = Shown("--rule", "av", "--size", "1", text=b"# DATA TYPE: cat\n# NUMBER ALTERNATIVES: 2\n800: 1\n1: 2\n")
         self.assertEqual(equal.labels, ["800 voters", "1 voter"])
+        self.assertEqual([float(cell.get("height")) for cell in equal.cells[::2]], [439.5, 14])
         self.assertLess(equal.height, 700)
 
     def test_small_groups_share_a_row(self):
@@ -276,7 +282,12 @@ class Shapes(unittest.TestCase):
         shown = Shown("--rule", "av", "--size", "1", text=self.many(3, 2, names))
         self.assertEqual(shown.turned, ["Ada of the House of Elsewh..", "Ben of the House of Elsewher"])
         self.assertLessEqual(shown.width, 1100)
+        # The sentences are wrapped.
+        self.assertLessEqual(max(len(text) for text in shown.texts) * 7.5, 1100)
         self.assertEqual(Shown(BOARD, "--rule", "av", "--size", "1").turned, [])
+        # A column is 78 wide, and a letter 8.4.
+        for name, turned in [("Adelaide", []), ("Alexandra", ["Alexandra"])]:
+            self.assertEqual(Shown("--rule", "av", "--size", "1", text=self.many(1, 1, [name])).turned, turned)
 
     def test_names_that_are_missing_or_odd(self):
         shown = Shown("--rule", "av", "--size", "1", text=self.many(3, 3))
@@ -312,6 +323,31 @@ class Refusals(unittest.TestCase):
             self.assertIn(status, (1, 2), words)
             self.assertEqual((svg, said.count("\n")), (b"", 1), said)
             self.assertTrue(said.startswith("draw_committee: ") and why in said, said)
+
+    def test_a_wrong_option_is_not_a_fault_of_the_file(self):
+        said = run("--rule=quota", "--size=1", BOARD)[2]
+        self.assertEqual(said, "draw_committee: invalid value 'quota' for '--rule <RULE>'\n")
+
+    def test_an_interrupt(self):
+        with program_that("echo $$ >$0.pid; exec sleep 60") as program:
+            words = [sys.executable, os.path.join(HERE, "draw_committee"), BOARD, "--rule=av", "--size=1"]
+            process = subprocess.Popen([*words, "--program", program], stderr=subprocess.PIPE)
+            pid = pathlib.Path(f"{program}.pid")
+            for _ in range(200):
+                if pid.exists() and pid.read_text():
+                    break
+                time.sleep(0.05)
+            process.send_signal(signal.SIGINT)
+            self.assertEqual((process.communicate(timeout=20)[1], process.returncode), (b"", 130))
+            self.assertFalse(os.path.exists(f"/proc/{pid.read_text().strip()}"))
+
+    def test_a_reader_that_is_gone(self):
+        words = [sys.executable, os.path.join(HERE, "draw_committee"), BOARD, "--rule=av", "--size=1"]
+        process = subprocess.Popen(words, stdout=subprocess.PIPE, stderr=subprocess.PIPE)
+        process.stdout.close()
+        self.assertEqual(process.stderr.read(), b"draw_committee: the picture could not be written\n")
+        process.stderr.close()
+        self.assertEqual(process.wait(), 1)
 
     def test_help(self):
         status, out, said = run("--help")
