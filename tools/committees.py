@@ -845,7 +845,7 @@ class Answers(Iterator[Answer]):
     def __init__(self, run: _Run, answer: Callable[[List[int]], Answer], header: Mapping[str, str]):
         self._run = run
         self._answer = answer
-        self.header = header
+        self._header = header
         self._count = 0
         self._first: List[Answer] = []
         self.score = Fraction(header["score"]) if "score" in header else None
@@ -854,7 +854,7 @@ class Answers(Iterator[Answer]):
 
     def _state(self) -> str:
         """The header, and how many answers were read."""
-        shown: Dict[str, Any] = {**self.header}
+        shown: Dict[str, Any] = {**self._header}
         if self.score is not None:
             shown["score"] = self.score
         header = ", ".join(f"{word} {value}" for word, value in shown.items())
@@ -1495,9 +1495,10 @@ def _json_of_check(run: _Run, property: str, members: Callable[[List[int]], List
     return found
 
 
-def _json_of_answers(run: _Run, word: str, answer: Callable[[List[int]], List[Any]], **header: Any) -> Dict[str, Any]:
-    answers: Answers[List[Any]] = Answers(run, answer, run.header(**header))
-    found: Dict[str, Any] = {word: int(value) if value.isdigit() else value for word, value in answers.header.items()}
+def _json_of_answers(run: _Run, word: str, answer: Callable[[List[int]], List[Any]], **words: Any) -> Dict[str, Any]:
+    header = run.header(**words)
+    answers: Answers[List[Any]] = Answers(run, answer, header)
+    found: Dict[str, Any] = {name: int(value) if value.isdigit() else value for name, value in header.items()}
     found[word] = answers.all()
     found["more"] = answers.more
     return found
