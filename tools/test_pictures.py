@@ -91,6 +91,8 @@ class Elections(unittest.TestCase):
         shown = Shown(BOARD, "--rule", "pav", "--size", "3")
         heights = [float(cell.get("height")) for cell in shown.cells[::6]]
         self.assertEqual([round(height / heights[2]) for height in heights], [7, 2, 1])
+        tops = [float(cell.get("y")) for cell in shown.cells[::6]]
+        self.assertTrue(all(top + height < below for top, height, below in zip(tops, heights, tops[1:])))
 
     def test_ties(self):
         words = [BOARD, "--rule", "cc", "--size", "2"]
@@ -279,8 +281,8 @@ class Shapes(unittest.TestCase):
         self.assertEqual(len(shown.turned), 64)
         self.assertLessEqual(max(map(len, shown.turned)), 28)
         names = ["Ada of the House of Elsewhere", "Ben of the House of Elsewher"]
-        shown = Shown("--rule", "av", "--size", "1", text=self.many(3, 2, names))
-        self.assertEqual(shown.turned, ["Ada of the House of Elsewh..", "Ben of the House of Elsewher"])
+        two = Shown("--rule", "av", "--size", "1", text=self.many(3, 2, names))
+        self.assertEqual(two.turned, ["Ada of the House of Elsewh..", "Ben of the House of Elsewher"])
         self.assertLessEqual(shown.width, 1100)
         # The sentences are wrapped.
         self.assertLessEqual(max(len(text) for text in shown.texts) * 7.5, 1100)
