@@ -329,7 +329,7 @@ class Ends(unittest.TestCase):
             raise kind()
 
         before = signal.signal(signal.SIGALRM, interrupt)
-        signal.setitimer(signal.ITIMER_REAL, 0.5)
+        signal.setitimer(signal.ITIMER_REAL, 0.3)
         try:
             yield held
         except kind as error:
@@ -353,13 +353,13 @@ class Ends(unittest.TestCase):
         start = subprocess.Popen
 
         def slow_start(*words, **options):
-            time.sleep(1)
+            time.sleep(0.6)
             return start(*words, **options)
 
         with program_that(WAITING) as program, mock.patch.object(subprocess, "Popen", slow_start):
             with self.interruption(Interrupted):
                 elect(BALLOTS, "av", 1, program=program)
-            time.sleep(1)  # until it has been started
+            time.sleep(0.6)  # until it has been started
             self.assert_ended()
 
     def test_an_interrupted_answer_ends_its_run(self):
@@ -437,8 +437,8 @@ class Ends(unittest.TestCase):
 
     def test_a_program_that_ended_in_time(self):
         threads = len(os.listdir("/proc/self/task"))
-        answers = elect(BALLOTS, "cc", 2, timeout=3)
-        time.sleep(3.5)
+        answers = elect(BALLOTS, "cc", 2, timeout=1)
+        time.sleep(1.5)
         self.assertEqual(len(list(answers)), 6)
         self.assertEqual(len(list(elect(BALLOTS, "cc", 2, timeout=100))), 6)
         for _ in range(100):

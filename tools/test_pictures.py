@@ -114,7 +114,7 @@ class Elections(unittest.TestCase):
 
     def test_the_tie_that_is_asked_for(self):
         text = b"# DATA TYPE: cat\n# NUMBER ALTERNATIVES: 5\n1: {}\n"
-        for committee in ("1,2,3", "1,2,5", "1,3,4", "2,3,4", "2,4,5", "3,4,5"):
+        for committee in ("1,2,5", "2,3,4"):
             shown = Shown("--rule", "av", "--size", "3", "--committee", committee, text=text)
             self.assertEqual(shown.bold, committee.split(","))
             self.assertIn("10 committees tie; this is the one asked for.", shown.texts)
