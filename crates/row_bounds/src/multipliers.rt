@@ -17,8 +17,8 @@ use std::alloc::{AllocError, Allocator};
 use std::cell::Cell;
 use std::marker::Model;
 
-/// The maximum that a step moves a multiplier to. Without a maximum, weights of ballots under minimax grew until they
-/// were all alike.
+/// The maximum that a step moves a multiplier to. Weights of ballots under minimax would grow without end, and voters
+/// and candidates in a square with outliers took almost three times as long.
 const MOST: u64 = 1 << 40;
 
 /// The pace of a step that closes the whole gap.
