@@ -176,7 +176,8 @@ class Marks(TableTest):
         self.refused("both --yes and --no name 'x'", "A,B\nx,o\n", "--yes=x", "--no=X")
 
     def test_an_only_mark_that_means_no(self):
-        for mark in ("no", "0", "-", "N", "false", "Nein", "falsch", "non", "faux", "nee", "nej"):
+        words = ("no", "0", "-", "–", "N", "false", "Nein", "falsch", "non", "faux", "nee", "nej")
+        for mark in (*words, "Not selected", "❌"):
             self.refused(f"say whether '{mark}' is a yes or a no", f"A,B\n{mark},{mark}\n")
             self.refused(f"say whether '{mark}' is a yes or a no", f"A,B\n{mark},?\n", "--no=?")
         self.assertEqual(self.ballots("A,B\n0,0\n", "--no=0"), ["1: {},{1,2}"])
@@ -248,6 +249,8 @@ class OneColumnOfNames(TableTest):
         self.refused("column 2 ('Ada;Ben'): the cells hold that name too", '1,"Ada;Ben"\n2,Ben\n3,Ada\n', "--list=2")
 
     def test_names_that_look_alike(self):
+        for pair in ("O'Ben;O’Ben", "Anne-Marie;Anne‑Marie"):
+            self.refused("differ only in case, in blanks", f"sep=,\nWho\n{pair}\n", "--list=1")
         for other in ("ada Byron", "Ada  Byron", "Ada\u00a0Byron", "AdaByron", "Ada By\u200bron", "Ada Byro\u0301n"):
             name = "Ada Byrón" if "\u0301" in other else "Ada Byron"
             said = self.refused("differ only in case, in blanks", f'Who\n"{name};Ben"\nBen\n{other}\n', "--list=1")
@@ -402,7 +405,8 @@ class Summaries(TableTest):
             "table_to_cat: 112 voters, 2 candidates\n"
             "  100  for Ada\n"
             "  105  for Ben\n"
-            "    7  for no candidate (row 3)\n",
+            "    7  for no candidate (row 3)\n"
+            "  read: column 2 (Who)\n",
         )
         counted = self.summary("N,Ada,Ben\n10,yes,no\n5,no,no\n", "--count=N", "--yes=yes")
         self.assertEqual(counted[-2:], ["10 'yes', taken as a yes", "20 'no', taken as a no"])
@@ -586,9 +590,8 @@ class SeveralColumnsOfNames(TableTest):
         said = self.summary(self.DROP_DOWNS, "--list=C1")
         self.assertNotIn("2 cells of column 3 (C2) hold names of candidates", said)
         said = self.summary(self.DROP_DOWNS.replace("9:02,Ada,", "9:02,Ben,Ada"), "--list=C1")
-        self.assertEqual(
-            said[-2:], ["3 cells of column 3 (C2) hold names of candidates", "not read: columns 1 (Time), 3 (C2)"]
-        )
+        self.assertIn("3 cells of column 3 (C2) hold names of candidates", said)
+        self.assertEqual(said[-2:], ["read: column 2 (C1)", "not read: columns 1 (Time), 3 (C2)"])
 
     def test_cells_that_a_separator_split(self):
         table = "Time,Who,,\n9,Ada,Ben,Cleo\n9,Ben,,\n"
@@ -626,8 +629,11 @@ class SeveralColumnsOfNames(TableTest):
         self.assertIn("cells with a `,` may hold one name with a `,` each", self.taken(one, "--list=1")[1])
         for certain in (FIVE, 'Who\n"Ada,"\n"Ben,"\n'):
             self.assertNotIn("may hold one name", self.taken(certain, "--list=1")[1])
-        both = 'C1,C2\n"Ada, Ben","Cleo, Ada"\n"Ben, Cleo",\n'
+        both = 'C1,C2\n"Ada, Ben",Cleo\n"Ben, Cleo",\n'
         self.assertEqual(self.winners(both, "--list=1-2"), ([{"Ben"}, {"Cleo"}], 2))
+        for pairs in ('"Lovelace, Ada","Turing, Alan"\n"Byron, Ada",\n', '"Ada, Ben","Cleo, Dan"\n'):
+            self.refused("it is not certain whether it separates names", f"C1,C2\n{pairs}", "--list=1-2")
+            self.assertIn("may hold one name", self.taken(f"C1,C2\n{pairs}", "--list=1")[1])
 
     def test_a_column_twice(self):
         self.refused("--list gives column 2 ('C1') twice", self.DROP_DOWNS, "--list=2", "--list=C1")
@@ -664,7 +670,16 @@ class NotRead(TableTest):
         table = 'Time,Who,Comment\n9:01,Ada, Ben\n9:02,"Ada, Ben",\n9:03,Cleo,fine\n9:04,Cleo,"Ben;Ada, please"\n'
         said = self.summary(table, "--list=2")
         self.assertIn("2 cells of column 3 (Comment) hold names of candidates", said)
-        self.assertEqual(said[-1], "not read: columns 1 (Time), 3 (Comment)")
+        self.assertIn("not read: columns 1 (Time), 3 (Comment)", said)
+        self.assertEqual(said[-1], "cells after names begin with a blank, as if a separator had cut them off: row 2")
+        unknown = "Time,Choice,Comment\n9:01,Ada, Ben\n9:02,Ada\n9:03,Cleo,nice\n"
+        said = self.summary(unknown, "--list=2")
+        self.assertIn("cells after names begin with a blank, as if a separator had cut them off: row 2", said)
+        self.assertIn("fewer cells than the first row: row 3", said)
+        said = self.summary("Choose two, please\nAda, Ben\nAda, Cleo\nDan\n", "--list=1")
+        self.assertEqual(
+            said[-1], "cells after names begin with a blank, as if a separator had cut them off: rows 2, 3"
+        )
 
     def test_a_cell_in_quotes_that_was_cut(self):
         for first, last in ("''", '""', "‘’"):
@@ -686,7 +701,61 @@ class NotRead(TableTest):
             self.refused("the names differ only in case, in blanks, in quotes", table, "--list=1")
 
 
+class RowsOfOtherWidths(TableTest):
+    def test_a_row_with_more_cells_than_the_first_row(self):
+        table = "Voter,Note,Ada,Ben,Cleo\nX,ok,,x,,\nY,,,x,\nZ,,x,,x\n"
+        said = self.refused("row 2 has 6 cells, and the first row 5", table, "--columns=3-5")
+        self.assertIn("double quotes", said)
+        self.assertEqual(self.ballots("A,B,\nx,,\n"), ["1: {1},{2}"])
+
+    def test_rows_with_fewer_cells(self):
+        table = "Time,Ada,Ben,Cleo\n9:01,,x,\n9:02,,x\n9:03,x\n"
+        self.assertEqual(self.summary(table, "--skip=1")[-1], "fewer cells than the first row: rows 3, 4")
+        self.assertNotIn("fewer cells", self.taken("A,B\nx,\n,x\n")[1])
+
+    def test_the_separator_of_rows_with_other_widths(self):
+        table = "Time;Choose two, please;Comment\n9:01;Ada, Ben\n9:02;Ada, Cleo\n9:03;Ada, Dan\n"
+        self.refused("it is not certain what separates the columns", table, "--list=2")
+        self.assertEqual(self.winners(f"sep=;\n{table}", "--list=2"), ([{"Ada"}], 3))
+
+    def test_lines_without_cells(self):
+        said = self.summary("Ada,Ben\nx,\n\n,x\n", "--blank-votes")
+        self.assertIn("1 line without cells, not counted", said)
+        self.assertIn("2 lines without cells, not counted", self.summary("Ada,Ben\nx,\n\n\n"))
+
+    def test_rows_that_a_quote_joined(self):
+        line = "cells hold lines like rows, as if a quote had joined them: row"
+        ditto = 'Time\tChoice\tRemark\n9:01\tAda\tby post\n9:02\tBen\t"\n9:03\tCleo\t"\n9:04\tAda\t\n'
+        self.assertIn(f"{line} 3", self.summary(ditto, "--list=2"))
+        first = 'Remark\tChoice\nby post\tAda\n"\tBen\n"\tAda\n\tAda\n'
+        self.assertIn(f"{line} 3", self.summary(first, "--list=2"))
+        comment = 'Time,Choice,Comment\n9:01,Ada,"I like her\n9:02,Ben,fine\n9:03,Cleo,really"\n9:04,Ada,\n'
+        self.assertIn(f"{line} 2", self.summary(comment, "--list=2"))
+        lines = 'Time,Choice,Comment\n9:01,"Ada\nBen","well,\nfine"\n'
+        self.assertNotIn(line, self.taken(lines, "--list=2")[1])
+
+
 class RefusedRows(TableTest):
+    def test_a_first_row_that_is_a_voter(self):
+        for table in ('"Ada, Zoe"\nAda\n"Ada, Ben"\nBen\n', "Ben\nAda\nBen\n"):
+            self.refused("the cells hold that name too", table, "--list=1")
+        question = '"Which of Ada, Ben, Cleo do you approve?"\nAda\nBen\n'
+        self.assertEqual(
+            self.summary(question, "--list=1")[-1], "read: column 1 (Which of Ada, Ben, Cleo do you approve?)"
+        )
+        self.assertEqual(self.summary("Zoe\nAda\nBen\n", "--list=1")[-1], "read: column 1 (Zoe)")
+
+    def test_a_second_row_of_headings_that_differs(self):
+        rows = "9:01,Ada,,Cleo\n9:02,,Ben,\n{}\n9:05,Ada,,\n"
+        for row in ("Timestamp,Ada,Ben,Cleo", ",Ada,Ben,Cleo"):
+            table = "Time,Ada,Ben,Cleo\n" + rows.format(row)
+            said = self.refused("row 4 has the names of all columns of the votes", table, "--columns=2-4")
+            self.assertIn("no number in column 1 ('Time')", said)
+        full = "Time,Ada,Ben,Cleo\n" + rows.format("9:03,Ada,Ben,Cleo")
+        self.assertEqual(self.winners(full, "--columns=2-4"), ([{"Ada"}], 3))
+        named = "Voter,Ada,Ben\nX,Ada,\nY,Ada,Ben\nZ,,Ben\n"
+        self.assertEqual(self.winners(named, "--columns=2-3"), ([{"Ada"}, {"Ben"}], 2))
+
     def test_codes_of_qualtrics(self):
         table = 'Q1,Q2\nWhom?,Why?\n"{""ImportId"":""QID1""}","{""ImportId"":""QID2_TEXT""}"\n"Ada,Ben",x\nBen,y\n'
         self.refused("row 3 has codes of Qualtrics", table, "--list=1")
@@ -704,7 +773,17 @@ class RefusedRows(TableTest):
         self.assertEqual(self.names("sep=,\nWho\nAT&T;R&D;Q&A\n", "--list=1"), ["AT&T", "R&D", "Q&A"])
 
     def test_a_row_of_totals_by_its_word(self):
-        for word in ("Total", "TOTALS", "Sum", "Summe:", "Somme", "Grand total", "Total (votes)", "Sum of all votes"):
+        for word in (
+            "Total",
+            "TOTALS",
+            "Sum",
+            "Summe:",
+            "Somme",
+            "Grand total",
+            "Total (votes)",
+            "Sum of all votes",
+            "Gesamt",
+        ):
             self.refused("row 4 looks like totals", f"Name,Ada,Ben\na,x,\nb,x,\n{word},2,0\n", "--skip=1")
             self.refused("row 3 looks like totals", f"Name,Ada\na,x\n{word},1\n", "--skip=1", "--no=1")
             self.refused("row 4 looks like", f"Name,N,Ada\na,2,x\nb,2,\n{word},4,2\n\n,,\n", "--count=2", "--skip=1")
@@ -745,6 +824,8 @@ class RefusedRows(TableTest):
         self.assertEqual(self.ballots("Ada,Ben\n1,0\n0,0\n1,1\n", "--yes=1")[-1], last[1])
         self.assertEqual(self.ballots("Ada,Ben\n1,0\n1,1\n", "--yes=1"), last)
         self.assertEqual(self.ballots("N,Ada,Ben\n3,x,\n4,,x\n8,x,x\n", "--count=1")[-1], "8: {1,2},{}")
+        for table in ("Choice\n1\n2\n3\n", "Time,Choice\n9,1\n9,2\n9,2\n9,3\n"):
+            self.assertEqual(self.names(table, "--list=Choice"), ["1", "2", "3"])
         for count in (2, 6, 8):
             table = f"N,Who\n3,Ada\n4,Ben\n{count},\n"
             self.assertEqual(self.ballots(table, "--count=1", "--list=2")[-1], f"{count}: {{}},{{1,2}}")
@@ -823,6 +904,11 @@ class ChosenColumns(TableTest):
         self.refused("4 different marks", table, "--skip=1")
         self.assertEqual(self.names("Ada [chair],Ben [chair]\nx,\n"), ["Ada [chair]", "Ben [chair]"])
         self.assertEqual(self.names("Vote [Ada],Ben\nx,\n"), ["Vote [Ada]", "Ben"])
+        question = "Which [two] do you want? [Ada],Which [two] do you want? [Ben]\nx,\n"
+        self.assertEqual(self.names(question), ["Ada", "Ben"])
+        self.assertEqual(self.names("[Ada],[Ben]\nx,\n"), ["Ada", "Ben"])
+        for odd in ("Ada],Ben]", "Vote [],Vote []x", "[Ada] now,[Ben] now"):
+            self.assertEqual(self.names(f"{odd}\nx,\n"), odd.split(","))
         self.refused("column 2 repeats the name 'Ada'", "Vote [Ada],Vote [Ada]\nx,\n")
         own = "Vote [Ada],Vote [Ben]\nAda,\n,Vote [Ben]\n"
         self.assertEqual(self.ballots(own), ["1: {1},{2}", "1: {2},{1}"])
@@ -832,6 +918,10 @@ class ChosenColumns(TableTest):
         for words in (["--skip=1"], ["--columns=2-4"]):
             self.assertEqual(self.winners(table, *words), ([{"Cleo"}], 2))
             self.assertIn("row 2 has the names of the candidates", self.summary(table, *words))
+        voter = "Time,Ada,Ben,,Comment\n,Ada,Ben,,hello\n9:01,Ada,,,\n"
+        self.assertEqual(self.winners(voter, "--columns=2-3"), ([{"Ada"}], 2))
+        spacer = "Voter,Ada,Ben,Cleo,,Remarks\n,x,,x,,\nB,,x,,,\n"
+        self.assertEqual(self.ballots(spacer, "--columns=2-4"), ["1: {1,3},{2}", "1: {2},{1,3}"])
         for words in (["--list=2-4"], ["--list=2"], ["--list=whom?"]):
             self.refused("row 2 may name the columns, or be a voter", table, *words)
         own = "Id,Whom?,,\n,Ada,Ben,Other\n1,Ada,,Zoe\n2,,,Zoe\n"
@@ -873,8 +963,10 @@ class Once(TableTest):
         self.refused("the rows 2 and 4 have the same voter 'A'", names, "--once=1", "--list=2")
         self.assertEqual(self.winners(names.replace("A,Ada", "c,Ben"), "--once=1", "--list=2"), ([{"Ben"}], 2))
 
-    def test_inner_blanks_count(self):
+    def test_blanks_within(self):
         self.assertEqual(len(self.ballots("Name,Ada\nAnn A,x\nAnnA,\n", "--once=1")), 2)
+        for other in ("Ann  A", "Ann\u00a0A", "Ａnn A"):
+            self.refused("the rows 2 and 3 have the same voter", f"Name,Ada\nAnn A,x\n{other},\n", "--once=1")
 
     def test_a_row_without_a_voter(self):
         table = "Mail,Ada,Ben\na,x,\n,x,\n"
@@ -899,13 +991,15 @@ class HeaderRows(TableTest):
 PARTS = "http://schemas.openxmlformats.org/package/2006"
 OFFICE = "http://schemas.openxmlformats.org/officeDocument/2006/relationships"
 CELLS = "http://schemas.openxmlformats.org/spreadsheetml/2006/main"
-STYLES = f"""<styleSheet xmlns="{CELLS}"><numFmts count="1"><numFmt numFmtId="170" formatCode="0 &quot;votes&quot;"/>
-</numFmts><fonts count="1"><font/></fonts><fills count="1"><fill><patternFill/></fill></fills>
+STYLES = f"""<styleSheet xmlns="{CELLS}"><numFmts count="4">
+<numFmt numFmtId="170" formatCode="0 &quot;votes&quot;"/><numFmt numFmtId="171" formatCode=";;;"/>
+<numFmt numFmtId="172" formatCode="000"/><numFmt numFmtId="173" formatCode="0,"/></numFmts>
+<fonts count="1"><font/></fonts><fills count="1"><fill><patternFill/></fill></fills>
 <borders count="1"><border/></borders><cellStyleXfs count="1"><xf/></cellStyleXfs>
-<cellXfs count="4"><xf/><xf numFmtId="14"/><xf numFmtId="9"/>
-<xf numFmtId="170"/></cellXfs></styleSheet>"""
+<cellXfs count="7"><xf/><xf numFmtId="14"/><xf numFmtId="9"/><xf numFmtId="170"/><xf numFmtId="171"/>
+<xf numFmtId="172"/><xf numFmtId="173"/></cellXfs></styleSheet>"""
 # The styles of the cells of a workbook.
-DATE, PERCENT, VOTES = "1", "2", "3"
+DATE, PERCENT, VOTES, HIDDEN, TOKEN, THOUSANDS = "123456"
 
 
 def number(value, style="0"):
@@ -940,10 +1034,11 @@ def sheet_xml(rows, merged, hidden):
     return f'<worksheet xmlns="{CELLS}"><sheetData>{"".join(lines)}</sheetData>{areas}</worksheet>'
 
 
-def workbook(*sheets, merged="", hidden=()):
-    """An .xlsx file. Its sheets are called Form1, Form2 and so on; only the first has merged cells and hidden rows."""
+def workbook(*sheets, merged="", hidden=(), hidden_sheet=False):
+    """An .xlsx file. Its sheets are called Form1, Form2 and so on; only the first has merged cells or is hidden."""
     kind = "application/vnd.openxmlformats-officedocument.spreadsheetml"
     numbers = range(1, len(sheets) + 1)
+    states = ("hidden" if hidden_sheet else "visible", "visible")
     parts = {
         "[Content_Types].xml": f'<Types xmlns="{PARTS}/content-types"><Default Extension="rels"'
         ' ContentType="application/vnd.openxmlformats-package.relationships+xml"/>'
@@ -957,7 +1052,7 @@ def workbook(*sheets, merged="", hidden=()):
         + "".join(f'<Relationship Id="r{n}" Type="{OFFICE}/worksheet" Target="s{n}.xml"/>' for n in numbers)
         + f'<Relationship Id="r0" Type="{OFFICE}/styles" Target="styles.xml"/></Relationships>',
         "xl/workbook.xml": f'<workbook xmlns="{CELLS}" xmlns:r="{OFFICE}"><sheets>'
-        + "".join(f'<sheet name="Form{n}" sheetId="{n}" r:id="r{n}"/>' for n in numbers)
+        + "".join(f'<sheet name="Form{n}" sheetId="{n}" r:id="r{n}" state="{states[n > 1]}"/>' for n in numbers)
         + "</sheets></workbook>",
         "xl/styles.xml": STYLES,
     }
@@ -1008,7 +1103,8 @@ class OtherSpreadsheets(TableTest):
             (self.zipped("Index/Document.iwa"), ".numbers"),
             (self.zipped("Index.zip"), ".numbers"),
         ):
-            said = self.refused(f"the table is an {kind} file, which is not read: save it as .xlsx", data)
+            said = self.refused(f"the table is an {kind} file", data)
+            self.assertIn("which is not read: save it as .xlsx", said)
             self.assertIn("or as CSV in UTF-8", said)
         for ending in (".xls", ".ods", ".numbers", ".XLS"):
             _, (status, out, said) = self.named(ending, b"Ada,Ben\nx,\n")
@@ -1058,8 +1154,9 @@ class Workbooks(TableTest):
         self.assertEqual(self.ballots(workbook([["Ada", "Ben"], ["Yes ", "no"]]), "--yes=yes"), ["1: {1},{2}"])
         rows = [["Who", "N"], ["Ada;Ben;", 12], ["Ben;", 30], ["", 5]]
         said = self.summary(workbook(rows), "--list=1", "--count=N")
-        self.assertEqual(said[1:], ["12 for Ada", "42 for Ben", "5 for no candidate (row 4)"])
+        self.assertEqual(said[1:], ["12 for Ada", "42 for Ben", "5 for no candidate (row 4)", "read: column 1 (Who)"])
         self.assertEqual(self.names(workbook([["Day", 3, 4], ["a", "x", ""]]), "--skip=1"), ["3", "4"])
+        self.assertEqual(self.names(workbook([["Who"], ["Ada_x000D_\nBen"], ["Ada"]]), "--list=1"), ["Ada", "Ben"])
 
     def test_a_file_and_a_pipe(self):
         table = workbook([["Ada", "Ben"], ["x", ""]])
@@ -1084,6 +1181,9 @@ class Workbooks(TableTest):
             (number(46000, DATE), "cell C3 has a date or a time"),
             (number(1, PERCENT), "cell C3 shows a number in the format 0%"),
             (number(1, VOTES), "cell C3 shows a number in the format 0"),
+            (number(1, HIDDEN), "cell C3 shows a number in the format ;;;"),
+            (number(7, TOKEN), "cell C3 shows a number in the format 000"),
+            (number(3000, THOUSANDS), "cell C3 shows a number in the format 0,"),
             (error("#N/A"), "cell C3 has the error #N/A"),
         )
         for cell, why in cases:
@@ -1109,6 +1209,9 @@ class Workbooks(TableTest):
             "there is no sheet 'form2'; the workbook has 'Form1', 'Form2', 'Form3'", table, "--sheet=form2"
         )
         self.assertEqual(len(said.splitlines()), 1)
+        hidden = workbook([["Ada"], ["x"]], [["Ben"], ["x"]], hidden_sheet=True)
+        self.assertEqual(self.names(hidden), ["Ben"])
+        self.assertEqual(self.summary(hidden)[-1], "not read: sheet 'Form1'")
         self.refused("the table is empty", workbook([]))
         self.refused("the table is empty", workbook([[""], [" "]]))
 
@@ -1120,6 +1223,7 @@ class Workbooks(TableTest):
         shaped = '<c r="{}" s="1"/>'
         table = workbook([["Ada"], ["x"], [], ["x"], [shaped], [shaped]])
         self.assertEqual(self.ballots(table, "--blank-votes"), ["2: {1},{}", "1: {},{1}"])
+        self.assertIn("2 blank rows at the end of the sheet, not counted", self.summary(table, "--blank-votes"))
         wide = workbook([["Ada"], ["x", '<c r="XFD2" s="1"/>'], *[["x"]] * 400])
         self.refused("the sheet has the cells A1:XFD402, too many", wide)
         self.refused("row 4: 'x' stands in column 3", workbook([["A", "B"], ["x"], [], ["", "", "x"]]))
