@@ -199,6 +199,7 @@ class RandomTables(unittest.TestCase):
             "looks like a row of totals": len(election.ballots) > 2,
             "holds the name": True,
             "no cell is marked": nobody,
+            "has the names of all columns of the votes": sheet.first == 1,
         }
         self.assertTrue([reason for reason, holds in reasons.items() if holds and reason in why], why)
         return False
