@@ -156,7 +156,8 @@ class CommitteesError(Exception):
 
 
 class NoProgram(CommitteesError):
-    """The program is not there, or could not be started or built."""
+    """The program is not there, could not be built, or could not be started, as on a processor that lacks a feature of
+    x86-64-v2."""
 
 
 class UsageRefused(CommitteesError):
@@ -755,7 +756,9 @@ class _Run:
             raise OutOfTime(f"the program had not ended after {self.alarm.seconds:g} seconds", status)
         if status in REFUSALS:
             raise _refusal(status, text, self.given)
-        if status == 125 or status == 127:
+        if status == 127 and "x86-64-v2" in text:
+            raise NoProgram("the processor lacks a feature of x86-64-v2, which the program needs", status)
+        if status in (125, 127):
             raise NoProgram(text, status)
         raise CutOff(text or "the output ended before its last line", status)
 

@@ -179,6 +179,13 @@ class Refusals(unittest.TestCase):
         for status in (125, 127):
             with program_that(f"exit {status}") as program, self.assertRaises(committees.NoProgram):
                 elect(BOARD, "av", 1, program=program)
+        # what its loader prints names an option that nothing has
+        line = "this machine lacks a feature of x86-64-v2, which this program was built for: build it with --cpu x86-64"
+        with program_that(f"echo '{line}' >&2; exit 127") as program:
+            with self.assertRaises(committees.NoProgram) as refusal:
+                elect(BOARD, "av", 1, program=program)
+        said = "the processor lacks a feature of x86-64-v2, which the program needs"
+        self.assertEqual((str(refusal.exception), refusal.exception.status), (said, 127))
 
     def test_keywords(self):
         with self.assertRaisesRegex(TypeError, "check.*'limit'"):
