@@ -712,6 +712,8 @@ class RowsOfOtherWidths(TableTest):
         table = "Time,Ada,Ben,Cleo\n9:01,,x,\n9:02,,x\n9:03,x\n"
         self.assertEqual(self.summary(table, "--skip=1")[-1], "fewer cells than the first row: rows 3, 4")
         self.assertNotIn("fewer cells", self.taken("A,B\nx,\n,x\n")[1])
+        two = "Id,Whom?\n,Ada,Ben,Cleo\n1,x,,x\n2,x\n"
+        self.assertEqual(self.summary(two, "--columns=2-4")[-1], "fewer cells than the first row: row 4")
 
     def test_the_separator_of_rows_with_other_widths(self):
         table = "Time;Choose two, please;Comment\n9:01;Ada, Ben\n9:02;Ada, Cleo\n9:03;Ada, Dan\n"
