@@ -677,9 +677,11 @@ class NotRead(TableTest):
         self.assertIn("cells after names begin with a blank, as if a separator had cut them off: row 2", said)
         self.assertIn("fewer cells than the first row: row 3", said)
         said = self.summary("Choose two, please\nAda, Ben\nAda, Cleo\nDan\n", "--list=1")
-        self.assertEqual(
-            said[-1], "cells after names begin with a blank, as if a separator had cut them off: rows 2, 3"
-        )
+        cut = "cells after names begin with a blank, as if a separator had cut them off"
+        self.assertEqual(said[-1], f"{cut}: rows 2, 3")
+        tabs, both = "Time\tWho\tWhy\n9\tAda\t because\n", "C1,C2\nAda, Ben\n"
+        for table, words in ((tabs, "--list=2"), (both, "--list=1-2")):
+            self.assertNotIn(cut, self.taken(table, words)[1])
 
     def test_a_cell_in_quotes_that_was_cut(self):
         for first, last in ("''", '""', "‘’"):
@@ -735,6 +737,10 @@ class RowsOfOtherWidths(TableTest):
         self.assertIn(f"{line} 2", self.summary(comment, "--list=2"))
         lines = 'Time,Choice,Comment\n9:01,"Ada\nBen","well,\nfine"\n'
         self.assertNotIn(line, self.taken(lines, "--list=2")[1])
+        names = 'Time,Choice\n9:01,"Lovelace, Ada\nBen"\n'
+        words = ("--list=2", "--candidates")
+        said = self.with_file("Lovelace, Ada\nBen\n", lambda path: self.taken(names, *words, path)[1])
+        self.assertNotIn(line, said)
 
 
 class RefusedRows(TableTest):
@@ -755,6 +761,9 @@ class RefusedRows(TableTest):
             self.assertIn("no number in column 1 ('Time')", said)
         full = "Time,Ada,Ben,Cleo\n" + rows.format("9:03,Ada,Ben,Cleo")
         self.assertEqual(self.winners(full, "--columns=2-4"), ([{"Ada"}], 3))
+        told = "Time,Ada,Ben,Why\n9:01,Ada,,1 yes\n9:02,Ada,Ben,because\n9:03,,Ben,2 no\n"
+        self.assertEqual(self.winners(told, "--columns=2-3"), ([{"Ada"}, {"Ben"}], 2))
+        self.assertEqual(self.winners("Time,Ada\n9:01,Ada\n9:02,Ada\nlate,Ada\n", "--columns=2"), ([{"Ada"}], 3))
         named = "Voter,Ada,Ben\nX,Ada,\nY,Ada,Ben\nZ,,Ben\n"
         self.assertEqual(self.winners(named, "--columns=2-3"), ([{"Ada"}, {"Ben"}], 2))
 
