@@ -515,7 +515,7 @@ class Types(unittest.TestCase):
         with tempfile.TemporaryDirectory() as room:
             notebook = os.path.join(room, "notebook.py")
             pathlib.Path(notebook).write_text(NOTEBOOK)
-            for file in ("committees.py", "draw_committee", notebook):
+            for file in ("committees.py", "draw_committee", "table_to_cat", notebook):
                 words = [mypy, "--strict", f"--cache-dir={room}", file]
                 environment = {**os.environ, "MYPYPATH": HERE}
                 run = subprocess.run(words, capture_output=True, text=True, cwd=HERE, env=environment)
