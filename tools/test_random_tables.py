@@ -200,6 +200,7 @@ class RandomTables(unittest.TestCase):
             "holds the name": True,
             "no cell is marked": nobody,
             "has the names of all columns of the votes": sheet.first == 1,
+            "may name the columns, or be a voter": sheet.first < sheet.last,
         }
         self.assertTrue([reason for reason, holds in reasons.items() if holds and reason in why], why)
         return False

@@ -312,6 +312,7 @@ class ListedCandidates(TableTest):
 
     def test_what_is_refused(self):
         self.refused_of("row 3: no name in", "Ada\nBen\n", 'Who\nAda\n"Ada, Bob"\n')
+        self.refused_of("the name 'Ada' twice; delete one of them", "Ada\nBen\n", 'Who\n"Ada, Ben, Ada"\n')
         self.refused_of("fits 'Adam'", "Ada\n", "Who\nAdam\n")
         self.refused_of("fits 'ada'", "Ada\n", "Who\nada\n")
         self.refused_of("fits 'Ada\\xa0B'", "Ada B\n", "Who\nAda\u00a0B\n")
@@ -708,7 +709,9 @@ class RowsOfOtherWidths(TableTest):
         table = "Voter,Note,Ada,Ben,Cleo\nX,ok,,x,,\nY,,,x,\nZ,,x,,x\n"
         said = self.refused("row 2 has 6 cells, and the first row 5", table, "--columns=3-5")
         self.assertIn("double quotes", said)
-        self.assertEqual(self.ballots("A,B,\nx,,\n"), ["1: {1},{2}"])
+        for table in ("A,B,\nx,,\n", "A,B\nx,,\n,x,\n"):
+            self.assertEqual(self.ballots(table)[0], "1: {1},{2}")
+        self.refused("row 3 has 3 cells, and the first row 2", "A,B\nx,\n,x,\n")
 
     def test_rows_with_fewer_cells(self):
         table = "Time,Ada,Ben,Cleo\n9:01,,x,\n9:02,,x\n9:03,x\n"
@@ -721,6 +724,10 @@ class RowsOfOtherWidths(TableTest):
         table = "Time;Choose two, please;Comment\n9:01;Ada, Ben\n9:02;Ada, Cleo\n9:03;Ada, Dan\n"
         self.refused("it is not certain what separates the columns", table, "--list=2")
         self.assertEqual(self.winners(f"sep=;\n{table}", "--list=2"), ([{"Ada"}], 3))
+        tabs = "Time\tWho, please?\n9:01\tAda, Ben\n9:02\tDan, Ben\n"
+        for table in (tabs, f"sep=\\t\n{tabs}", f"sep=\t\n{tabs}"):
+            self.assertEqual(self.winners(table, "--list=2"), ([{"Ben"}], 2))
+        self.refused("the first line 'sep=;;' has more than the sign", "sep=;;\nAda;Ben\nx;\n")
 
     def test_lines_without_cells(self):
         said = self.summary("Ada,Ben\nx,\n\n,x\n", "--blank-votes")
@@ -747,11 +754,30 @@ class RefusedRows(TableTest):
     def test_a_first_row_that_is_a_voter(self):
         for table in ('"Ada, Zoe"\nAda\n"Ada, Ben"\nBen\n', "Ben\nAda\nBen\n"):
             self.refused("the cells hold that name too", table, "--list=1")
+        listing = 'Time,"Vote (Ada, Ben, Cleo, Dan)"\n9:01,"Ada, Ben"\n9:02,Cleo\n9:03,Dan\n'
+        self.assertEqual(self.names(listing, "--list=2"), ["Ada", "Ben", "Cleo", "Dan"])
         question = '"Which of Ada, Ben, Cleo do you approve?"\nAda\nBen\n'
         self.assertEqual(
             self.summary(question, "--list=1")[-1], "read: column 1 (Which of Ada, Ben, Cleo do you approve?)"
         )
         self.assertEqual(self.summary("Zoe\nAda\nBen\n", "--list=1")[-1], "read: column 1 (Zoe)")
+
+    def test_a_first_row_with_a_name_for_each_column(self):
+        monkey = "Id,Your name,Which candidates?,,\n,Open-Ended Response,Ada,Ben,Cleo\n1,Ann,Ada,,Cleo\n2,Bob,,Ben,\n"
+        codes = "Id,Q1_1,Q1_2,Q1_3\nResponse ID,Ada,Ben,Cleo\n1,Ada,,Cleo\n2,,Ben,\n3,Ada,Ben,\n"
+        for table, words, want in ((monkey, "--list=3-5", 1), (codes, "--list=2-4", 2)):
+            self.refused("row 2 may name the columns, or be a voter", table, words)
+            self.assertEqual(self.winners(table, words, "--header-rows=2")[1], want)
+            lower = table.replace("\n", "\n,,,,\n", 1) if table == monkey else table.replace("\n", "\n,,,\n", 1)
+            self.assertIn("--header-rows 3,", self.refused("row 3 may name the columns", lower, words))
+            self.assertEqual(self.winners(table, words, "--header-rows=1")[1], want + 1)
+        self.assertEqual(self.winners("C1,C2\nAda,Ben\nBen,\n", "--list=1-2"), ([{"Ben"}], 2))
+
+    def test_own_names_beside_other_names(self):
+        table = "T,Ada,Ben,Other\n1,Ada,,\n2,,Ben,Zoe\n3,Ada,Ben,\n"
+        self.assertIn("give this column by --list", self.refused("'Zoe' is not a mark", table, "--columns=2-4"))
+        self.assertEqual(self.winners(table, "--list=2-4"), ([{"Ada"}, {"Ben"}], 2))
+        self.refused("the cells hold that name too", "Ada\nAda\nAda\n", "--list=1")
 
     def test_a_second_row_of_headings_that_differs(self):
         rows = "9:01,Ada,,Cleo\n9:02,,Ben,\n{}\n9:05,Ada,,\n"
@@ -794,13 +820,20 @@ class RefusedRows(TableTest):
             "Total (votes)",
             "Sum of all votes",
             "Gesamt",
+            "Count",
         ):
             self.refused("row 4 looks like totals", f"Name,Ada,Ben\na,x,\nb,x,\n{word},2,0\n", "--skip=1")
             self.refused("row 3 looks like totals", f"Name,Ada\na,x\n{word},1\n", "--skip=1", "--no=1")
             self.refused("row 4 looks like", f"Name,N,Ada\na,2,x\nb,2,\n{word},4,2\n\n,,\n", "--count=2", "--skip=1")
         table = "Name,Who\na,Ada\nTotal,1\n"
         self.refused("row 3 looks like totals", table, "--list=2")
-        for word in ("Totally", "Summer", "in sum I say no", "sum.total@example.org"):
+        table = "Name,Ada,Ben\nann,1,\nbob,,1\nTotal A,1,1\ncyd,1,\ndan,,1\n"
+        self.refused("row 4 looks like totals", table, "--skip=1")
+        self.assertEqual(self.winners(table.replace("Total A", "Tom"), "--skip=1"), ([{"Ada"}, {"Ben"}], 3))
+        for pivot in ("Grand Total", "Gesamtergebnis", "Totale complessivo"):
+            table = f'Choice,Votes\n"Ada, Ben",3\nDan,2\nBen,1\n{pivot},6\n'
+            self.refused("row 5 looks like totals", table, "--list=1", "--count=2")
+        for word in ("Suma Rao", "Count Olaf", "Totally", "Summer", "in sum I say no", "sum.total@example.org"):
             self.assertEqual(self.ballots(f"Name,Ada,Ben\na,x,\n{word},,x\n", "--skip=1")[1], "1: {2},{1}")
 
     def test_names_that_are_words_for_totals(self):
@@ -1002,15 +1035,16 @@ class HeaderRows(TableTest):
 PARTS = "http://schemas.openxmlformats.org/package/2006"
 OFFICE = "http://schemas.openxmlformats.org/officeDocument/2006/relationships"
 CELLS = "http://schemas.openxmlformats.org/spreadsheetml/2006/main"
-STYLES = f"""<styleSheet xmlns="{CELLS}"><numFmts count="4">
+STYLES = f"""<styleSheet xmlns="{CELLS}"><numFmts count="6">
+<numFmt numFmtId="174" formatCode="_-* #,##0_-;\\-* #,##0_-"/><numFmt numFmtId="175" formatCode="[$-409]0;-0"/>
 <numFmt numFmtId="170" formatCode="0 &quot;votes&quot;"/><numFmt numFmtId="171" formatCode=";;;"/>
 <numFmt numFmtId="172" formatCode="000"/><numFmt numFmtId="173" formatCode="0,"/></numFmts>
 <fonts count="1"><font/></fonts><fills count="1"><fill><patternFill/></fill></fills>
 <borders count="1"><border/></borders><cellStyleXfs count="1"><xf/></cellStyleXfs>
-<cellXfs count="7"><xf/><xf numFmtId="14"/><xf numFmtId="9"/><xf numFmtId="170"/><xf numFmtId="171"/>
-<xf numFmtId="172"/><xf numFmtId="173"/></cellXfs></styleSheet>"""
+<cellXfs count="9"><xf/><xf numFmtId="14"/><xf numFmtId="9"/><xf numFmtId="170"/><xf numFmtId="171"/>
+<xf numFmtId="172"/><xf numFmtId="173"/><xf numFmtId="174"/><xf numFmtId="175"/></cellXfs></styleSheet>"""
 # The styles of the cells of a workbook.
-DATE, PERCENT, VOTES, HIDDEN, TOKEN, THOUSANDS = "123456"
+DATE, PERCENT, VOTES, HIDDEN, TOKEN, THOUSANDS, PADDED, LOCAL = "12345678"
 
 
 def number(value, style="0"):
@@ -1202,6 +1236,9 @@ class Workbooks(TableTest):
             self.refused(why, table, "--skip=1")
             self.refused(why.replace("C3", "A3"), table, "--list=1")
             self.assertEqual(self.ballots(table, "--columns=2"), ["2: {1},{}"])
+        for form in (PADDED, LOCAL):
+            self.assertEqual(self.ballots(workbook([["Ada", "Ben"], [number(1, form), ""]])), ["1: {1},{2}"])
+        self.assertEqual(self.names(workbook([["Who"], ["Ada_xD83D_"], ["_x005F_"]]), "--list=1"), ["Ada_xD83D_", "_"])
         self.refused("cell B1 has a date", workbook([["Why", number(46000, DATE)], ["a", "x"]]), "--skip=1")
         left_out = workbook([["Ada"], [number("0.5")], ["x"]])
         self.assertEqual(self.ballots(left_out, "--header-rows=2"), ["1: {1},{}"])
