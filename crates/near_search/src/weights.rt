@@ -13,15 +13,14 @@ ghost use Rattle.tie_walk.specs.Values.{closeness};
 
 use crate::needs::still_needed;
 use ballot_base::{CandSet, PLACES, Profile, Worths};
-use row_bounds::multipliers::{Constraint, Effort, Gap, Multipliers, RowBound, WHOLE, narrowed};
+use row_bounds::multipliers::{
+    Constraint, Effort, Gap, MOST_MOVED, Multipliers, RowBound, WHOLE, Wanted, narrowed,
+};
 use row_bounds::{Moves, Node};
 use std::alloc::Allocator;
 
 /// Each moved weight begins with this number: enough that rounding matters little.
 pub(crate) const FIRST_WEIGHT: u64 = 1 << 20;
-
-/// The maximum of a moved weight.
-const MOST_WEIGHT: u64 = 1 << 40;
 
 /// How long weights are moved at a node. With 10 and with 20 rounds, some elections took three times as long. If moving
 /// went back to the best round, rankings round four centres took more than twice as long.
@@ -116,7 +115,7 @@ impl<A: Allocator + Copy> NeedSearch<'_, A> {
         match &self.weighing {
             Weighing::Nothing => 0,
             Weighing::ByShare(shares) => shares.weight(needed, approved),
-            Weighing::Moved(weights) => weights.within(i, 0, MOST_WEIGHT),
+            Weighing::Moved(weights) => weights.within(i, 0, MOST_MOVED),
         }
     }
 }
@@ -163,16 +162,21 @@ impl<A: Allocator + Copy> RowBound for NeedSearch<'_, A> {
         let Weighing::Moved(weights) = &self.weighing else {
             return 0;
         };
-        let mut square: u128 = 0;
+        let mut square: u64 = 0;
         for i in 0..self.profile.rows() {
             let (ballot, _voters) = self.profile.row(i);
             let needed = still_needed(ballot, node, self.most);
             if needed > 0 {
-                let hits = ballot.common(best).len();
-                let lacking = i64::from(needed) - i64::from(hits);
-                square = square.saturating_add(weights.aim(i, lacking));
+                weights.want(
+                    i,
+                    Wanted {
+                        fewest: needed,
+                        most: needed,
+                    },
+                );
+                square = square.saturating_add(weights.aim(i, ballot.common(best).len()));
             }
         }
-        square
+        u128::from(square)
     }
 }

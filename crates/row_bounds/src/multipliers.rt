@@ -17,15 +17,15 @@ use std::alloc::{AllocError, Allocator};
 use std::cell::Cell;
 use std::marker::Model;
 
-/// The maximum that a step moves a multiplier to. Weights of ballots under minimax would grow without end, and voters
-/// and candidates in a square with outliers took almost three times as long.
-const MOST: u64 = 1 << 40;
+/// The maximum of a multiplier that steps have moved. Without it, weights of ballots under minimax grew without end, and
+/// voters and candidates in a square with outliers took almost three times as long.
+pub const MOST_MOVED: u64 = 1 << 40;
 
 /// The pace of a step that closes the whole gap.
 pub const WHOLE: u64 = 1024;
 
 /// The direction that one hit makes.
-const HIT: i64 = 64;
+const HIT: i32 = 64;
 
 /// The number of rounds between two judgements whether the gap closes fast enough.
 const ROUNDS_BETWEEN: u16 = 3;
@@ -192,6 +192,21 @@ pub fn narrowed<B: RowBound, A: Allocator>(
     progress.end(Some(here.free))
 }
 
+/// The numbers of hits, from `fewest` to `most`, that fit the multiplier of a row best.
+#[derive(Clone, Copy)]
+pub struct Wanted {
+    pub fewest: u8,
+    pub most: u8,
+}
+
+impl Wanted {
+    /// How many hits a row with this many lacks; below 0 if it has too many.
+    fn lacking(self, hits: u8) -> i32 {
+        let nearest = hits.max(self.fewest).min(self.most);
+        i32::from(nearest) - i32::from(hits)
+    }
+}
+
 /// The multiplier of a row.
 #[derive(Clone, Copy)]
 struct Multiplier {
@@ -199,7 +214,8 @@ struct Multiplier {
     // The multiplier with which the gap was the smallest.
     lowest: u64,
     // The hits that the candidates of the highest worths lacked lately, in parts of a hit.
-    direction: i64,
+    direction: i32,
+    wanted: Wanted,
 }
 
 impl Multiplier {
@@ -208,13 +224,14 @@ impl Multiplier {
             now,
             lowest: now,
             direction: 0,
+            wanted: Wanted { fewest: 0, most: 0 },
         }
     }
 
     fn moved(self, length: u64) -> Multiplier {
-        let way = length.saturating_mul(self.direction.unsigned_abs());
+        let way = length.saturating_mul(u64::from(self.direction.unsigned_abs()));
         let now = if self.direction > 0 {
-            self.now.saturating_add(way).min(MOST)
+            self.now.saturating_add(way).min(MOST_MOVED)
         } else {
             self.now.saturating_sub(way)
         };
@@ -264,13 +281,24 @@ impl<A: Allocator> Multipliers<A> {
         row.get().now.max(low).min(high)
     }
 
-    /// Turns the direction of a row to the hits that it lacks. Returns the square of the direction, or 0 if the
-    /// multiplier is 0 and would fall.
-    pub fn aim(&self, row: usize, lacking: i64) -> u128 {
+    /// Notes the numbers of hits that fit the multiplier of a row best.
+    pub fn want(&self, row: usize, wanted: Wanted) {
+        if let Some(row) = self.rows.get(row) {
+            row.update(|multiplier| Multiplier {
+                wanted,
+                ..multiplier
+            });
+        }
+    }
+
+    /// Turns the direction of a row to the hits that it wants, if it has this many. Returns the square of the direction,
+    /// or 0 if the multiplier is 0 and would fall.
+    pub fn aim(&self, row: usize, hits: u8) -> u64 {
         let Some(row) = self.rows.get(row) else {
             return 0;
         };
         let multiplier = row.get();
+        let lacking = multiplier.wanted.lacking(hits);
         let direction = (multiplier.direction / 8)
             .saturating_mul(5)
             .saturating_add(HIT.saturating_mul(lacking));
@@ -281,7 +309,7 @@ impl<A: Allocator> Multipliers<A> {
         if multiplier.now == 0 && direction <= 0 {
             return 0;
         }
-        let size = u128::from(direction.unsigned_abs());
+        let size = u64::from(direction.unsigned_abs());
         size.saturating_mul(size)
     }
 

@@ -11,6 +11,7 @@ ghost use Rattle.thiele_bounds.specs.Steps.Units.{most_given, most_given_to_pair
 ghost use Rattle.thiele_bounds.specs.Steps.Majorants.{AreMajorants, Majorized};
 
 use ballot_base::{Increments, PLACES, ThieleRule};
+use row_bounds::multipliers::Wanted;
 use std::marker::Model;
 
 /// The first hit gives about this many units in sums for majorants: enough that rounding matters little.
@@ -81,33 +82,29 @@ impl HitSums {
     }
 
     /// The maximum that a voter gives for the first `before` hits and up to `most` further ones, less the multiplier
-    /// for each further hit. No hit gives more than the one before it, so the first that gives too little ends the
-    /// count.
-    pub(crate) fn kept(&self, before: u8, most: u8, multiplier: u64) -> u64
+    /// for each further hit, and the numbers of further hits with which that is so. No hit gives more than the one
+    /// before it, so the first that gives too little ends the count.
+    pub(crate) fn kept(&self, before: u8, most: u8, multiplier: u64) -> (u64, Wanted)
         requires fits { before + most ≤ most_candidates }
         requires multiplier { multiplier ≤ most_given }
         ensures bounds { (h : ℕ) → h ≤ most
-            → slice_index self.now.sums (before + h) ≤ result + multiplier * h }
-        ensures small { result ≤ most_given }
+            → slice_index self.now.sums (before + h) ≤ result.0 + multiplier * h }
+        ensures small { result.0 ≤ most_given }
     {
+        let mut fewest = 0;
         let mut hits = 0;
-        while hits < most && self.increment(before + hits) > multiplier {
+        while hits < most {
+            let increment = self.increment(before + hits);
+            if increment < multiplier {
+                break;
+            }
             hits += 1;
+            if increment > multiplier {
+                fewest = hits;
+            }
         }
-        self.sums[usize::from(before + hits)] - multiplier * u64::from(hits)
-    }
-
-    /// The number of further hits after the first `before`, up to `most`, with which a voter keeps the maximum. Of
-    /// several such numbers it is the nearest to `hits`.
-    pub(crate) fn wanted(&self, before: u8, most: u8, multiplier: u64, hits: u8) -> u8
-        requires fits { before + most ≤ most_candidates }
-        ensures { result ≤ most }
-    {
-        let mut more = 0;
-        while more < most && self.increment(before + more) + u64::from(more < hits) > multiplier {
-            more += 1;
-        }
-        more
+        let kept = self.sums[usize::from(before + hits)] - multiplier * u64::from(hits);
+        (kept, Wanted { fewest, most: hits })
     }
 
     /// A value in units. Every value with fewer units is lower.

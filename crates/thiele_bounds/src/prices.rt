@@ -96,7 +96,9 @@ impl<A: Allocator + Copy> PriceSearch<'_, A> {
             let most = node.left.min(approved.len());
             let multiplier = self.multiplier(i, before, most);
             let count = u128::from(voters);
-            kept += count * u128::from(self.given.kept(before, most, multiplier));
+            let (given, wanted) = self.given.kept(before, most, multiplier);
+            self.multipliers.want(i, wanted);
+            kept += count * u128::from(given);
             worths.add(approved, count * u128::from(multiplier));
         }
         Prices { kept, worths }
@@ -149,21 +151,15 @@ impl<A: Allocator + Copy> RowBound for PriceSearch<'_, A> {
         }
     }
 
-    fn aim(&self, node: &Node, best: CandSet) -> u128 {
-        let mut square: u128 = 0;
+    fn aim(&self, _node: &Node, best: CandSet) -> u128 {
+        let mut square: u64 = 0;
         let profile = self.tally.profile();
         for i in 0..profile.rows() {
             let (ballot, voters) = profile.row(i);
-            let before = ballot.common(node.set).len();
-            let most = node.left.min(ballot.common(node.free).len());
-            let hits = ballot.common(best).len();
-            let multiplier = self.multiplier(i, before, most);
-            let wanted = self.given.wanted(before, most, multiplier, hits);
-            let lacking = i64::from(wanted).saturating_sub(i64::from(hits));
-            let size = self.multipliers.aim(i, lacking);
-            square = square.saturating_add(size.saturating_mul(u128::from(voters)));
+            let size = self.multipliers.aim(i, ballot.common(best).len());
+            square = square.saturating_add(size.saturating_mul(u64::from(voters)));
         }
-        square
+        u128::from(square)
     }
 }
 

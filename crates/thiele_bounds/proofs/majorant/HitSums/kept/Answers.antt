@@ -2,7 +2,7 @@ use Rattle.std.proofs.Common.{◌≡◌, ℕ, ◌+◌, ◌*◌, ◌≤◌, List,
 use Rattle.std.proofs.lemmas.Bool.{cases_lt}
 use Rattle.thiele_bounds.proofs.PairBounds.SumLemmas.{later}
 use Rattle.thiele_bounds.proofs.majorant.HitSums.kept.Goals as goal
-use Rattle.thiele_bounds.proofs.majorant.HitSums.kept.Goals.{then-loop-hits-test+else-increment-multiplier, else-loop-hits-test}
+use Rattle.thiele_bounds.proofs.majorant.HitSums.kept.Goals.{then-loop-hits-test+then-increment-multiplier, else-loop-hits-test}
 
 -- what is subtracted is no more than the sum
 less : (sums : List ℕ) (before hits at taken multiplier : ℕ) → at ≡ before + hits → taken ≡ hits
@@ -12,8 +12,8 @@ less sums before hits at taken multiplier place same highest =
     let first = highest 0 (omega arith) in
     omega (arith, first, ap (λ m. get_or sums m 0) place, ap (λ m. multiplier * m) same)
 
-pub overflow_sub-result : goal.overflow_sub-result
-overflow_sub-result c = less c.args.self.now.sums c.args.before c.loop-hits.hits c.from.result c.from-2.result c.args.multiplier c.from.ensures c.from-2.ensures c.loop-hits.invariant.highest
+pub overflow_sub-kept : goal.overflow_sub-kept
+overflow_sub-kept c = less c.args.self.now.sums c.args.before c.loop-hits.hits c.from.result c.from-2.result c.args.multiplier c.from.ensures c.from-2.ensures c.loop-hits.invariant.highest
 
 pub returns-clause-bounds : goal.returns-clause-bounds
 returns-clause-bounds c h few =
@@ -24,12 +24,12 @@ returns-clause-bounds c h few =
     let highest = c.loop-hits.invariant.highest in
     let bound : get_or sums (before + h) 0 + multiplier * hits ≤ get_or sums (before + hits) 0 + multiplier * h =
     elim c.loop-hits-test.branch [
-      | then-loop-hits-test+else-increment-multiplier t ↦ elim (cases_lt h hits) [
+      | then-loop-hits-test+then-increment-multiplier t ↦ elim (cases_lt h hits) [
         | inl low ↦ highest h (omega (arith, low))
         | inr high ↦
             let inside : before + hits + 1 ≤ 64 = omega (arith, t.loop-hits-test.true, c.requires.fits) in
             let first : get_or sums (before + hits + 1) 0 ≤ get_or sums (before + hits) 0 + multiplier =
-            omega (arith, t.increment.ensures.rise inside, t.if-increment-multiplier.false) in
+            omega (arith, t.increment-increment.ensures.rise inside, t.if-increment-multiplier.true) in
             later sums before hits h multiplier c.args.self.now.concave first (omega (arith, high)) (omega (arith, few, c.requires.fits))
       ]
       | else-loop-hits-test t ↦ highest h (omega (arith, few, t.loop-hits-test.false))
