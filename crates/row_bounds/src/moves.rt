@@ -25,6 +25,14 @@ const BEGINNING: u64 = 384;
 /// The number of moves, for a number of seats left, before it is judged whether they pay.
 const TRIALS_OF_MOVES: u64 = 4;
 
+/// The number of moves of a search before it is judged whether they achieve enough.
+const MOVES_BEFORE_DOUBT: u64 = 48;
+
+/// What moves must achieve on average: a sixth. Below the first nodes there is far more work than below others, so that
+/// moves seem to pay. Without this limit, 40 random candidates and 20 seats took a fifth more instructions under `pav`;
+/// with a quarter, 64 popular candidates took twice as many under `geom4`.
+const LEAST_ACHIEVED: u64 = PARTS / 6;
+
 /// At one of this many nodes nothing is moved, so that the work below it is seen. Seen at nodes that moves had not
 /// ended, it was too high, and 40 random candidates took fifteen times as long under `cc`.
 const LEFT_ALONE: u32 = 16;
@@ -43,6 +51,9 @@ pub struct Moves {
     round: u64,
     // All work of the search so far.
     done: Cell<u64>,
+    // The number of moves over all searches, and what they achieved together, in parts.
+    made: Cell<u64>,
+    achieved: Cell<u64>,
     levels: [Cell<Level>; LEVELS],
 }
 
@@ -58,6 +69,8 @@ impl Moves {
         Moves {
             round,
             done: Cell::new(0),
+            made: Cell::new(0),
+            achieved: Cell::new(0),
             levels: array::from_fn(|_| Cell::new(Level::NONE)),
         }
     }
@@ -100,7 +113,14 @@ impl Moves {
         let Some(level) = self.levels.get(usize::from(left)) else {
             return false;
         };
-        self.has_begun() && level.get().is_due()
+        let level = level.get();
+        self.has_begun() && level.is_due() && (self.achieve_enough() || level.is_tried_anew())
+    }
+
+    /// Whether all moves so far achieved enough, or there were few of them.
+    fn achieve_enough(&self) -> bool {
+        let made = self.made.get();
+        made < MOVES_BEFORE_DOUBT || self.achieved.get() / made.max(1) >= LEAST_ACHIEVED
     }
 
     /// Notes a move at the node that was entered last, and counts its rounds as work.
@@ -108,6 +128,8 @@ impl Moves {
         self.work(moved.rounds);
         let cost = self.cost(moved.rounds).saturating_mul(PARTS);
         let achieved = achieved(node.free, moved.free);
+        self.made.update(|made| made.saturating_add(1));
+        self.achieved.update(|sum| sum.saturating_add(achieved));
         if let Some(level) = self.levels.get(usize::from(node.left)) {
             level.update(|level| Level {
                 success: level.success.with(achieved),
@@ -163,6 +185,11 @@ impl Level {
             open: (!is_moved).then_some(done),
             ..level
         }
+    }
+
+    /// Whether moves are tried at this node although they achieved too little so far.
+    fn is_tried_anew(&self) -> bool {
+        self.nodes % LEFT_ALONE == LEFT_ALONE / 2
     }
 
     /// Whether moves save as much work as they cost, or are to be tried.
