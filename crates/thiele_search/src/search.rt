@@ -75,10 +75,8 @@ impl<'a, A: Allocator + Copy> ThieleSearch<'a, A> {
         requires is_node { IsNode self.now.election.m node.now.set node.now.free }
         ensures { Narrows (tally_value self.now) self.now.election.m node.now least result }
     {
-        // Under `cc` a set takes so little time that moves cost more than they save.
-        let is_due = self.values.rule() != ThieleRule::Cc && self.moves.are_due(node.left);
         match &self.aids.priced {
-            Some(priced) if is_due => {
+            Some(priced) if self.moves.are_due(node.left) => {
                 let search = PriceSearch {
                     tally: &self.values,
                     given: &priced.given,
