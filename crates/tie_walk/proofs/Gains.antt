@@ -193,3 +193,8 @@ thiele-fits e rule k c left value more set valid small few are most =
       arith,
       thiele-most e (increments rule k) set (2 ^ 84) valid (λ x. omega (arith, sum-take-le (increments rule k) x, increments_sum-most rule k small)),
     )
+
+pub thiele-nothing : (w : List ℕ) (rows : List Row) → thiele_value w rows [] ≡ 0
+thiele-nothing w [] = refl
+thiele-nothing w (row ∷ rows) =
+    grind (arith, common_steps, thiele-nothing w rows, hits-none, sum_by-cons)

@@ -1,7 +1,7 @@
 -- Bounds that are the value of a completion: under approval voting and satisfaction approval voting each candidate gives
 -- a committee the same, whoever else is in it.
 use Rattle.std.proofs.lemmas.Grind.{common_steps}
-use Rattle.std.proofs.Common.{◌≡◌, ℕ, zero, suc, ◌+◌, ◌-◌, ◌*◌, ◌<◌, ◌≤◌, ◌∙◌, cond, List, [], ◌∷◌, ◌++◌, refl, sym, ap, arith, inl, inr, length, length-append, append_assoc, sum_by, add-one, append-nil}
+use Rattle.std.proofs.Common.{◌≡◌, ℕ, zero, suc, ◌+◌, ◌-◌, ◌*◌, ◌<◌, ◌≤◌, ◌∙◌, cond, List, [], ◌∷◌, ◌++◌, refl, sym, ap, arith, inl, inr, length, length-append, append_assoc, get_or, sum_by, add-one, append-nil}
 use Rattle.std.proofs.lemmas.Bool.{cases_lt}
 use Rattle.std.proofs.lemmas.List.Sums.{sum_by-cons}
 use Rattle.ballot_base.specs.Limits.{most_members}
@@ -14,14 +14,15 @@ use Rattle.ballot_base.specs.Ballots.{Row, Election, IsElection, hits}
 use Rattle.ballot_base.proofs.Increasing.{IsIncreasing-push, IsIncreasing-lower, IsIncreasing-higher, with_member-above, has_member-above}
 use Rattle.ballot_base.proofs.WeightLemmas.{increments-within}
 use Rattle.tie_walk.specs.Ceilings.{IsTight, ceiling, gain_at, greatest_sum}
-use Rattle.tie_walk.specs.Steps.Tables.{parts, score}
+use Rattle.tie_walk.specs.Sequences.{gain}
+use Rattle.tie_walk.specs.Steps.Tables.{IsApproval, parts, score}
 use Rattle.tie_walk.specs.Values.{thiele_value, satisfaction_value}
 use Rattle.tie_walk.specs.declared.sequential.Step.TheVariants.{Grow}
-use Rattle.tie_walk.proofs.Gains.{thiele-partial, satisfaction-more, satisfaction-nothing}
-use Rattle.tie_walk.proofs.GreatestSums.{best_of, best_of-none, best_of-short, best_of-more, greatest_sum-same, ceiling-whole}
+use Rattle.tie_walk.proofs.Gains.{thiele-ceiling, thiele-nothing, thiele-partial, satisfaction-more, satisfaction-nothing}
+use Rattle.tie_walk.proofs.GreatestSums.{best_of, best_of-none, best_of-short, best_of-more, greatest_sum-none, greatest_sum-same, ceiling-whole, same_sum}
 use Rattle.tie_walk.proofs.Distances.{common-least_right}
 use Rattle.tie_walk.proofs.RowSums.{AreBallots, length-common}
-use Rattle.tie_walk.proofs.WorthLemmas.{partial}
+use Rattle.tie_walk.proofs.WorthLemmas.{partial, worth-whole}
 
 -- some list has the greatest sum
 module _ (worth : ℕ → ℕ) (last : ℕ) where
@@ -100,16 +101,64 @@ approved m k d x [] set small all up few = refl
 approved m k d x (row ∷ rows) set small all up few =
     grind (arith, common_steps, approved m k d x rows set small all.1 up few, hits-most, add-one, increments-within, sum_by-cons)
 
-pub approval-tight : (e : Election) (k : ℕ) → IsElection e → k ≤ most_members
-    → IsTight (λ set. thiele_value (increments Av k) e.rows set) (λ c set left. ceiling (thiele_value (increments Av k) e.rows) e.m c set left) e.m k
-approval-tight e k valid small =
-    additive-tight (λ set. thiele_value (increments Av k) e.rows set) e.m k (approvals e.rows)
-    (λ set d x up over high few. omega (
+-- what a set with fewer than k members gains by a candidate is what a set without members gains
+approval-gain : (e : Election) (k d x : ℕ) (set : List ℕ) → IsElection e → 1 ≤ k → k ≤ most_members → IsIncreasing 1 d set → length set < k
+    → gain (increments Av k) e.rows set x ≡ gain (increments Av k) e.rows [] x
+approval-gain e k d x set valid some small up few =
+    omega (
+      arith,
+      approved e.m k d x e.rows set small valid.ballots up few,
+      approved e.m k d x e.rows [] small valid.ballots tt (omega (arith, some)),
+      worth-whole Grow (increments Av k) e.rows set x,
+      worth-whole Grow (increments Av k) e.rows [] x,
+    )
+
+approval-joined : (e : Election) (k : ℕ) → IsElection e → k ≤ most_members → (set : List ℕ) (d x : ℕ) → IsIncreasing 1 d set → d < x → x ≤ e.m → length set < k
+    → thiele_value (increments Av k) e.rows (set ++ x ∷ []) ≡ thiele_value (increments Av k) e.rows set + approvals e.rows x
+approval-joined e k valid small set d x up over high few =
+    omega (
       arith,
       ap (thiele_value (increments Av k) e.rows) (with_member-above 1 d set x up over),
       thiele-partial e.m (increments Av k) e.rows set x valid.ballots (has_member-above 1 d set x up over),
       approved e.m k d x e.rows set small valid.ballots up few,
-    ))
+    )
+
+pub approval-tight : (e : Election) (k : ℕ) → IsElection e → k ≤ most_members
+    → IsTight (λ set. thiele_value (increments Av k) e.rows set) (λ c set left. ceiling (thiele_value (increments Av k) e.rows) e.m c set left) e.m k
+approval-tight e k valid small = additive-tight (λ set. thiele_value (increments Av k) e.rows set) e.m k (approvals e.rows) (approval-joined e k valid small)
+
+-- a committee has the approvals of its members, here summed as `excess` over 0 sums them
+pub approval-sum : (e : Election) (k : ℕ) (table set : List ℕ) → IsApproval e k table → IsIncreasing 1 e.m set → length set ≤ k
+    → thiele_value (increments Av k) e.rows set ≡ sum_by (λ x. get_or table x 0 - 0) set
+approval-sum e k table set is up few =
+    omega (
+      arith,
+      additive (λ list. thiele_value (increments Av k) e.rows list) e.m k (approvals e.rows) (approval-joined e k is.election is.size) [] set 0 tt up (omega (arith, few)),
+      thiele-nothing (increments Av k) e.rows,
+      same_sum (approvals e.rows) (λ x. get_or table x 0 - 0) 1 e.m each 1 set (omega arith) up,
+    )
+  where
+    each : (x : ℕ) → 1 ≤ x → x ≤ e.m → approvals e.rows x ≡ get_or table x 0 - 0
+    each x low high =
+        omega (
+          arith,
+          is.approvals_are x low high,
+          approved e.m k 0 x e.rows [] is.size is.election.ballots tt (omega (arith, is.some)),
+          worth-whole Grow (increments Av k) e.rows [] x,
+        )
+
+-- the ceiling by the approvals
+pub approval-ceiling : (e : Election) (k c left : ℕ) (table set : List ℕ) → IsApproval e k table → IsIncreasing 1 c set → length set + left ≤ k
+    → thiele_value (increments Av k) e.rows set + greatest_sum (λ x. get_or table x 0) (c + 1) e.m left ≡ ceiling (thiele_value (increments Av k) e.rows) e.m c set left
+approval-ceiling e k c zero table set is up few =
+    omega (
+      arith,
+      greatest_sum-none (λ x. get_or table x 0) (c + 1) e.m,
+      ceiling-whole (thiele_value (increments Av k) e.rows) e.m c set,
+    )
+approval-ceiling e k c (suc left) table set is up few =
+    thiele-ceiling e (increments Av k) table c (suc left) set is.election up
+    (λ x low high. is.approvals_are x (omega (arith, low)) high ∙ sym (approval-gain e k c x set is.election is.some is.size up (omega (arith, few))))
 
 -- ---- satisfaction approval voting
 

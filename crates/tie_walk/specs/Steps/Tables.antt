@@ -1,12 +1,13 @@
 -- What tallies keep, and how they sum.
-use Rattle.std.specs.Prelude.{◌≡◌, ℕ, ◌+◌, ◌*◌, ◌/◌, ◌≤◌, List, ◌∷◌, length, map, sum, sum_by, take, slice_index}
+use Rattle.std.specs.Prelude.{◌≡◌, ℕ, ◌+◌, ◌*◌, ◌/◌, ◌^◌, ◌≤◌, List, [], ◌∷◌, length, map, sum, sum_by, take, slice_index}
 use Rattle.std.specs.List.{range_with_len}
 use Rattle.ballot_base.specs.Limits.{most_candidates, most_members}
 use Rattle.ballot_base.specs.Ballots.{Row, Election, IsElection}
 use Rattle.ballot_base.specs.CommonMultiple.{common_multiple}
 use Rattle.ballot_base.specs.Increments.{increments}
 use Rattle.ballot_base.specs.declared.increments.ThieleRule.{ThieleRule}
-use Rattle.tie_walk.specs.Sequences.{supporters}
+use Rattle.ballot_base.specs.declared.increments.ThieleRule.TheVariants.{Av}
+use Rattle.tie_walk.specs.Sequences.{gain, supporters}
 
 -- the sums of the first 0 to `most_candidates` of these
 unfoldable pub prefix_sums : List ℕ → List ℕ
@@ -32,3 +33,11 @@ score shares rows c = sum_by (λ (row : Row). row.1 * slice_index shares (length
 pub record IsSatisfaction (e : Election) (scores : List ℕ) : Type 0 where
   pub election : IsElection e
   pub scores_are : (c : ℕ) → slice_index scores c ≡ score (parts (common_multiple e.m)) e.rows c
+
+-- what is true of each tally of approval voting: it has what a set without members gains by each candidate
+pub record IsApproval (e : Election) (k : ℕ) (approvals : List ℕ) : Type 0 where
+  pub election : IsElection e
+  pub some : 1 ≤ k
+  pub size : k ≤ most_members
+  pub approvals_are : (c : ℕ) → 1 ≤ c → c ≤ e.m → slice_index approvals c ≡ gain (increments Av k) e.rows [] c
+  pub small : (c : ℕ) → slice_index approvals c ≤ 2 ^ 116
