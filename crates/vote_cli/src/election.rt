@@ -4,7 +4,7 @@
 //!
 //! The functions for a rule are not inlined: a tally or a printer takes many KB of stack, and those of other rules
 //! should not lie beside it.
-ghost use Rattle.std.specs.Prelude.{◌≡◌, IfOk, MatchOption, ⊤, is_ok};
+ghost use Rattle.std.specs.Prelude.{◌≡◌, is_ok};
 ghost use Rattle.tie_walk.specs.Values.{thiele_of};
 ghost use Rattle.text_output.specs.Steps.Printing.{Sends};
 ghost use Rattle.vote_cli.specs.Steps.Listed.{listed_text, winners_text};
@@ -16,11 +16,11 @@ use crate::refusal::Refusal;
 use ballot_base::ThieleRule;
 use near_search::MinimaxSearch;
 use request_words::{Rule, ScoredRule};
-use std::alloc::{AllocError, Allocator};
+use std::alloc::Allocator;
 use text_output::{Sink, WriteFailed};
 use thiele_search::{SearchMemory, ThieleSearch};
 use tie_families::{Families, FamilyWinners};
-use tie_walk::{SavTally, SeqRule, ThieleTally};
+use tie_walk::{ApprovalTally, SavTally, SeqRule};
 
 /// Writes an election and its listed winners.
 pub(crate) fn answer_election<A: Allocator + Copy + Drop, W: Sink>(
@@ -46,12 +46,40 @@ fn answer_scored<A: Allocator + Copy + Drop, W: Sink>(
     ensures { WritesText W.contents W.has_failed out.old out.new result (listed_text listing.now (Rule.Scored rule)) }
 {
     match rule {
+        ScoredRule::Thiele(ThieleRule::Av) => answer_approval(out, listing),
         ScoredRule::Thiele(rule) => answer_thiele(alloc, out, rule, listing),
         ScoredRule::Satisfaction => answer_satisfaction(out, listing),
         ScoredRule::Minimax => answer_minimax(alloc, out, listing),
     }
 }
 
+/// Writes an election under approval voting, whose bounds are exact without a search.
+#[inline(never)]
+fn answer_approval<A: Allocator + Copy + Drop, W: Sink>(
+    out: &mut W,
+    listing: &Listing<'_, A>,
+) -> Result<Outcome, Refusal>
+    ensures { WritesText W.contents W.has_failed out.old out.new result
+        (listed_text listing.now (Rule.Scored (ScoredRule.Thiele ThieleRule.Av))) }
+{
+    listing.write_rule(out, Rule::Scored(ScoredRule::Thiele(ThieleRule::Av)))?;
+    by_approvals(out, listing)?;
+    Ok(Outcome::Answered)
+}
+
+fn by_approvals<A: Allocator + Copy + Drop, W: Sink>(
+    out: &mut W,
+    listing: &Listing<'_, A>,
+) -> Result<(), WriteFailed>
+    ensures { Sends W.contents W.has_failed out.old out.new (is_ok result)
+        (winners_text listing.now (ScoredRule.Thiele ThieleRule.Av)) }
+{
+    let tally = ApprovalTally::new(listing.profile, listing.size);
+    listing.write_ranked(out, &tally, ScoredRule::Thiele(ThieleRule::Av))
+}
+
+/// Writes an election under another of Thiele's rules, whose winners a search finds.
+#[inline(never)]
 fn answer_thiele<A: Allocator + Copy + Drop, W: Sink>(
     alloc: A,
     out: &mut W,
@@ -61,56 +89,10 @@ fn answer_thiele<A: Allocator + Copy + Drop, W: Sink>(
     ensures { WritesText W.contents W.has_failed out.old out.new result
         (listed_text listing.now (Rule.Scored (ScoredRule.Thiele rule))) }
 {
-    let memory = search_memory(alloc, rule, listing)?;
+    let memory = SearchMemory::new(alloc, listing.profile, rule, listing.size)?;
     listing.write_rule(out, Rule::Scored(ScoredRule::Thiele(rule)))?;
-    write_winners(out, rule, memory, listing)?;
+    by_search(out, rule, memory, listing)?;
     Ok(Outcome::Answered)
-}
-
-/// The memory for a search, if a search finds the winners under the rule.
-#[inline(never)]
-fn search_memory<'a, A: Allocator + Copy + Drop>(
-    alloc: A,
-    rule: ThieleRule,
-    listing: &Listing<'a, A>,
-) -> Result<Option<SearchMemory<'a, A>>, AllocError>
-    ensures { IfOk result (λ memory. MatchOption memory ⊤
-        (λ taken. taken ≡ thiele_of listing.now.profile.now rule listing.now.size)) }
-{
-    if rule == ThieleRule::Av {
-        return Ok(None);
-    }
-    Ok(Some(SearchMemory::new(alloc, listing.profile, rule, listing.size)?))
-}
-
-fn write_winners<A: Allocator + Copy + Drop, W: Sink>(
-    out: &mut W,
-    rule: ThieleRule,
-    memory: Option<SearchMemory<'_, A>>,
-    listing: &Listing<'_, A>,
-) -> Result<(), WriteFailed>
-    requires { MatchOption memory ⊤ (λ taken. taken ≡ thiele_of listing.now.profile.now rule listing.now.size) }
-    ensures { Sends W.contents W.has_failed out.old out.new (is_ok result)
-        (winners_text listing.now (ScoredRule.Thiele rule)) }
-{
-    match memory {
-        Some(memory) => by_search(out, rule, memory, listing),
-        None => by_bounds(out, rule, listing),
-    }
-}
-
-/// Writes the winners without a search. This is for approval voting, whose bounds are exact.
-#[inline(never)]
-fn by_bounds<A: Allocator + Copy + Drop, W: Sink>(
-    out: &mut W,
-    rule: ThieleRule,
-    listing: &Listing<'_, A>,
-) -> Result<(), WriteFailed>
-    ensures { Sends W.contents W.has_failed out.old out.new (is_ok result)
-        (winners_text listing.now (ScoredRule.Thiele rule)) }
-{
-    let tally = ThieleTally::new(listing.profile, rule, listing.size);
-    listing.write_ranked(out, &tally, ScoredRule::Thiele(rule))
 }
 
 /// Writes the winners that a search in this memory finds.
