@@ -1,6 +1,5 @@
 use Rattle.std.proofs.Common.{ℕ, ◌∙◌, List, ap, get_or, refl}
 use Rattle.tie_walk.specs.Values.{tally_value}
-use Rattle.row_bounds.specs.Completions.{IsOutOfReach}
 use Rattle.row_bounds.specs.Steps.Narrowed.{IsNarrowed, Narrows}
 use Rattle.row_bounds.proofs.NarrowedLemmas.{narrowed-more, narrowed-out}
 use Rattle.tie_search.proofs.DescentLemmas.{choice-of_all, narrowed-choice}
