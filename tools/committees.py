@@ -602,12 +602,26 @@ def _input(profile: Any, names: bool, reading: Reading) -> _Input:
 
 
 def _program(program: Optional[Path]) -> str:
-    """The program: the one named, the one that is built in this checkout, or the one on the PATH."""
-    built = os.path.join(os.path.dirname(os.path.realpath(__file__)), "..", "crates", "committees", "out", "committees")
-    found = os.fspath(program) if program else built if os.path.exists(built) else shutil.which("committees")
+    """The program: the one named, that of the variable COMMITTEES, the one beside this file, or the one on the PATH."""
+    named = os.fspath(program) if program else os.environ.get("COMMITTEES")
+    found = named or _beside() or shutil.which("committees")
     if not found:
-        raise NoProgram("there is no program `committees`: build it, or give its path as program=..")
+        raise NoProgram("there is no program `committees` here or on the PATH; the variable COMMITTEES may name one")
     return found
+
+
+def _beside() -> Optional[str]:
+    """The program in the place that it has if this file is of a package, an installation or a checkout."""
+    folder, name = os.path.split(os.path.realpath(__file__))
+    if name == "__init__.py":
+        # PREFIX/lib/pythonX.Y/site-packages/committees, or below a folder of `pip install --target`
+        places = ["../../../../bin", "../bin"]
+    elif folder.endswith("/share/committees"):
+        places = ["../../bin"]
+    else:
+        places = ["../crates/committees/out"]
+    programs = (os.path.normpath(os.path.join(folder, place, "committees")) for place in places)
+    return next((program for program in programs if os.path.exists(program)), None)
 
 
 class _Process:

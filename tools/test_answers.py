@@ -6,6 +6,7 @@ import sys
 import tempfile
 import unittest
 from fractions import Fraction
+from unittest import mock
 
 HERE = os.path.dirname(os.path.realpath(__file__))
 TOP = os.path.dirname(HERE)
@@ -186,6 +187,13 @@ class Refusals(unittest.TestCase):
                 elect(BOARD, "av", 1, program=program)
         said = "the processor lacks a feature of x86-64-v2, which the program needs"
         self.assertEqual((str(refusal.exception), refusal.exception.status), (said, 127))
+
+    def test_the_variable_names_the_program(self):
+        with mock.patch.dict(os.environ, COMMITTEES="/no/such/program"):
+            with self.assertRaisesRegex(committees.NoProgram, "^/no/such/program could not be started"):
+                elect(BOARD, "av", 1)
+            with program_that("exit 5") as program, self.assertRaises(committees.NoMemory):
+                elect(BOARD, "av", 1, program=program)
 
     def test_keywords(self):
         with self.assertRaisesRegex(TypeError, "check.*'limit'"):

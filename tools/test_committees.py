@@ -515,9 +515,11 @@ class Types(unittest.TestCase):
         with tempfile.TemporaryDirectory() as room:
             notebook = os.path.join(room, "notebook.py")
             pathlib.Path(notebook).write_text(NOTEBOOK)
-            for file in ("committees.py", "draw_committee", "table_to_cat", notebook):
+            packages = os.path.join(TOP, "packages")
+            others = (os.path.join(TOP, "install"), notebook)
+            for file in ("committees.py", "draw_committee", "table_to_cat", *others):
                 words = [mypy, "--strict", f"--cache-dir={room}", file]
-                environment = {**os.environ, "MYPYPATH": HERE}
+                environment = {**os.environ, "MYPYPATH": f"{HERE}:{packages}"}
                 run = subprocess.run(words, capture_output=True, text=True, cwd=HERE, env=environment)
                 self.assertEqual(run.returncode, 0, run.stdout + run.stderr)
 

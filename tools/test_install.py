@@ -1,6 +1,5 @@
 """Tests of `pip install ./tools`, in a fresh virtual environment and without a network."""
 import os
-import re
 import shutil
 import subprocess
 import sys
@@ -37,13 +36,6 @@ def run(*words, **options):
 
 def has_modules(python):
     return os.path.exists(python) and run(python, "-c", "import setuptools, pip, venv, wheel").returncode == 0
-
-
-class Versions(unittest.TestCase):
-    def test_the_version_is_that_of_the_citation(self):
-        with open(os.path.join(TOP, "CITATION.cff")) as citation:
-            cited = re.search("^version: (.*)$", citation.read(), re.MULTILINE)[1]
-        self.assertEqual(__version__, cited)
 
 
 class Installed(unittest.TestCase):

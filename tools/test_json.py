@@ -195,7 +195,9 @@ class Programs(unittest.TestCase):
         if shutil.which("committees", path=os.environ["PATH"]):
             self.skipTest("the program is installed on this machine")
         self.assertEqual((status, printed), (125, ""))
-        self.assertEqual(said, "there is no program `committees`: build it, or give its path as program=..\n")
+        self.assertEqual(
+            said, "there is no program `committees` here or on the PATH; the variable COMMITTEES may name one\n"
+        )
 
     def test_an_interrupt_ends_the_program(self):
         with program_that("echo $$ >$0.pid; exec sleep 60") as program:
