@@ -1,9 +1,10 @@
 # A rule for each crate, made from crates.txt. `make` builds the program of this checkout, as `./committees` does, and
 #   make program DIR=FOLDER [USES='CRATE ..'] [ARGS='WORD ..' for a first run]
-# proves and links another one, with src/main.rt, over all crates here, or over those named (also of the kit). Both have
-# `make build` run by tools/build.sh on a copy of the sources. The mark of a built crate, crates/NAME/out/rlib/SUM, has
-# as its name the checksum of what its proof reads and of the kit's version. Times of files do not count.
-.PHONY: all program build
+# proves and links another one, with src/main.rt, over all crates here, or over those named (also of the kit). `make
+# dist` makes the packages of the program. All have `make build` run by tools/build.sh on a copy of the sources. The mark
+# of a built crate, crates/NAME/out/rlib/SUM, has as its name the checksum of what its proof reads and of the kit's
+# version. Times of files do not count.
+.PHONY: all program dist build
 copy := $(dir $(lastword $(MAKEFILE_LIST)))
 sh := set -eu; . $(copy)tools/build.sh;
 
@@ -12,6 +13,8 @@ all:
 	@./committees --help >/dev/null
 program:
 	@here=$$PWD; $(sh) build_program "$(DIR)" "$(ARGS)" "$(USES)"
+dist:
+	@$(copy)packages/make_packages
 else
 # The chain of crates that takes longest. Each begins as soon as it can, and if there are four jobs, with at least two.
 long := ballot_base tie_walk thiele_bounds thiele_search

@@ -516,7 +516,7 @@ class Types(unittest.TestCase):
             notebook = os.path.join(room, "notebook.py")
             pathlib.Path(notebook).write_text(NOTEBOOK)
             packages = os.path.join(TOP, "packages")
-            others = (os.path.join(TOP, "install"), notebook)
+            others = (os.path.join(TOP, "install"), os.path.join(packages, "make_packages"), notebook)
             for file in ("committees.py", "draw_committee", "table_to_cat", *others):
                 words = [mypy, "--strict", f"--cache-dir={room}", file]
                 environment = {**os.environ, "MYPYPATH": f"{HERE}:{packages}"}
