@@ -4,13 +4,11 @@ import hashlib
 import os
 import re
 import subprocess
-from typing import Dict, Iterator, List, NamedTuple, Tuple
+from typing import Dict, Iterator, List, NamedTuple
 
-from pages import BUILT, PAGES, Rule
+from pages import BUILT, DOCUMENTS, MODULES, PAGES, Rule
 
 TOP = os.path.dirname(os.path.dirname(os.path.realpath(__file__)))
-DOCUMENTS = "share/doc/committees"
-MODULES = "share/committees"
 COMPLETIONS = "share/bash-completion/completions"
 MANUALS = "share/man/man1"
 # The paths of all files, so that a later version can remove those that it no longer has.
@@ -105,10 +103,9 @@ class Installation:
 def others() -> Iterator[str]:
     """The documents that an installation has as they are here."""
     yield "CITATION.cff"
-    for folder, ending in [("docs", ".svg"), ("examples", ""), ("licenses", "")]:
-        yield from (
-            f"{folder}/{name}" for name in sorted(os.listdir(os.path.join(TOP, folder))) if name.endswith(ending)
-        )
+    for folder, endings in [("docs", (".svg", ".png")), ("examples", ("",)), ("licenses", ("",))]:
+        names = sorted(os.listdir(os.path.join(TOP, folder)))
+        yield from (f"{folder}/{name}" for name in names if name.endswith(endings))
 
 
 def manual(text: str, documents: str) -> str:

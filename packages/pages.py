@@ -16,7 +16,9 @@ PAGES: Dict[str, Sequence[str]] = {
     "docs/RULES.md": [],
     "tools/README.md": ["In the source code"],
 }
-MODULES = "../../committees"  # where the Python modules lie, seen from the folder of the documents
+# Where an installation has the documents and the Python modules. The commands of pages run in the folder of documents.
+DOCUMENTS = "share/doc/committees"
+MODULES = "share/committees"
 BUILT = "crates/committees/out/committees"
 LINK = re.compile(r"!?\[([^\]]*)\]\(([^)\s]*)\)")
 OTHER_PLACE = re.compile("[a-z]+:")  # https: and the like
@@ -40,14 +42,15 @@ class Rule:
         text = re.sub(rf"(sha256sum\b[^\n`]*) {BUILT}\b", r'\1 "$(command -v committees)"', text)
         text = re.sub(r"(\./|\bcrates/committees/out/)committees\b", "committees", text)
         text = re.sub(rf"\btools/({self.tools})\b", r"\1", text)
-        return text.replace("PYTHONPATH=tools ", f"PYTHONPATH={MODULES} ")
+        return text.replace("PYTHONPATH=tools ", f"PYTHONPATH={posixpath.relpath(MODULES, DOCUMENTS)} ")
 
     def _with_links(self, page: str, text: str) -> str:
         def linked(link: "re.Match[str]") -> str:
             target = link[2].partition("#")[0]
             place = posixpath.normpath(posixpath.join(posixpath.dirname(page), target)) if target else page
             kept = OTHER_PLACE.match(target) or place in self.installed
-            return link[0] if kept else f"{link[1]} of the source code"
+            words = link[1] if link[0].startswith("!") else f"{link[1]} of the source code"
+            return link[0] if kept else words
 
         return LINK.sub(linked, text)
 
