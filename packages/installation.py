@@ -3,8 +3,9 @@ import ast
 import hashlib
 import os
 import re
+import shutil
 import subprocess
-from typing import Dict, Iterator, List, NamedTuple
+from typing import Dict, Iterator, List, NamedTuple, Optional
 
 from pages import BUILT, DOCUMENTS, MODULES, PAGES, Rule
 
@@ -46,13 +47,21 @@ def cited_version() -> str:
     return found[1]
 
 
+def is_checkout() -> bool:
+    return os.path.exists(os.path.join(TOP, ".git"))
+
+
+def git(*words: str) -> Optional[str]:
+    """What git prints of this checkout; None if this is not one, or if git is missing or fails."""
+    if not is_checkout() or not shutil.which("git"):
+        return None
+    done = subprocess.run(["git", "-C", TOP, *words], capture_output=True, text=True)
+    return None if done.returncode else done.stdout.strip()
+
+
 def origin() -> str:
     """Where the program comes from: its version, its commit if this is a checkout, its kit, and checksums."""
-    describe = ["git", "-C", TOP, "describe", "--always", "--dirty", "--abbrev=40", "--exclude", "*"]
-    try:
-        commit = subprocess.run(describe, capture_output=True, text=True).stdout.strip()
-    except OSError:
-        commit = ""
+    commit = git("describe", "--always", "--dirty", "--abbrev=40", "--exclude", "*")
     folder = os.path.dirname(BUILT)
     kit = read_text(f"{folder}/kit").strip() if os.path.exists(os.path.join(TOP, folder, "kit")) else ""
     sources = read_text(f"{folder}/sources").strip()
