@@ -314,7 +314,7 @@ class Refusals(unittest.TestCase):
             (["--rule=av", "--size=7", BOARD], b"", f"{BOARD}: request: SizeTooLarge"),
             (["--rule=av", "--size=1", "--classes=2", BOARD], b"", f"{BOARD}: input line 22: PickMisfit"),
             (["--property=jr", "--committee=9", BOARD], b"", "CommitteeMisfit"),
-            (["--rule=av", "--size=1", "--committee=9", BOARD], b"", "request: CommitteeMisfit"),
+            (["--rule=av", "--size=1", "--committee=9", BOARD], b"", "9 is not a winning committee of 1"),
             (["--rule=av", "--size=1", "no-such-file.cat"], b"", "no-such-file.cat: No such file or directory"),
             (["--rule=av", "--size=1", EXAMPLES], b"", "Is a directory"),
             (["--rule=av", "--size=1"], b"", "standard input: input: NoAlternatives"),
