@@ -4,7 +4,7 @@
 //!
 //! The functions for a rule are not inlined: a tally or a printer takes many KB of stack, and those of other rules
 //! should not lie beside it.
-ghost use Rattle.std.specs.Prelude.{◌≡◌, is_ok};
+ghost use Rattle.std.specs.Prelude.{◌≡◌, IfOk, is_ok};
 ghost use Rattle.tie_walk.specs.Values.{thiele_of};
 ghost use Rattle.text_output.specs.Steps.Printing.{Sends};
 ghost use Rattle.vote_cli.specs.Steps.Listed.{listed_text, winners_text};
@@ -16,7 +16,7 @@ use crate::refusal::Refusal;
 use ballot_base::ThieleRule;
 use near_search::MinimaxSearch;
 use request_words::{Rule, ScoredRule};
-use std::alloc::Allocator;
+use std::alloc::{AllocError, Allocator};
 use text_output::{Sink, WriteFailed};
 use thiele_search::{SearchMemory, ThieleSearch};
 use tie_families::{Families, FamilyWinners};
@@ -89,10 +89,22 @@ fn answer_thiele<A: Allocator + Copy + Drop, W: Sink>(
     ensures { WritesText W.contents W.has_failed out.old out.new result
         (listed_text listing.now (Rule.Scored (ScoredRule.Thiele rule))) }
 {
-    let memory = SearchMemory::new(alloc, listing.profile, rule, listing.size)?;
+    let memory = search_memory(alloc, rule, listing)?;
     listing.write_rule(out, Rule::Scored(ScoredRule::Thiele(rule)))?;
     by_search(out, rule, memory, listing)?;
     Ok(Outcome::Answered)
+}
+
+// Not inlined: what the memory is made from takes stack, too, which is given back before the search begins.
+#[inline(never)]
+fn search_memory<'a, A: Allocator + Copy + Drop>(
+    alloc: A,
+    rule: ThieleRule,
+    listing: &Listing<'a, A>,
+) -> Result<SearchMemory<'a, A>, AllocError>
+    ensures { IfOk result (λ memory. memory ≡ thiele_of listing.now.profile.now rule listing.now.size) }
+{
+    SearchMemory::new(alloc, listing.profile, rule, listing.size)
 }
 
 /// Writes the winners that a search in this memory finds.
