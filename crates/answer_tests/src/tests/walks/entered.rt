@@ -9,7 +9,7 @@ use super::super::support::{
 };
 use ballot_base::{CandSet, KSets, MOST_CANDIDATES, Profile, ThieleRule};
 use std::process::Abort;
-use tie_walk::{MinimaxTally, SavTally, Tally, ThieleTally, Winners};
+use tie_walk::{ApprovalTally, MinimaxTally, SavTally, Tally, ThieleTally, Winners};
 
 /// Asserts that only the first 20 of 40 candidates win, by a walk over 41 prefixes, and at most 10,000 calls in all.
 fn assert_few_calls<T: Tally>(rt: &impl Abort, tally: &T)
@@ -28,6 +28,7 @@ fn assert_few_calls<T: Tally>(rt: &impl Abort, tally: &T)
 #[test]
 fn twenty_of_forty_in_few_calls(rt: HostRuntime) {
     let profile = election_of(&rt, rt.alloc(), 40, &[((1 << 20) - 1, 1)]);
+    assert_few_calls(&rt, &ApprovalTally::new(&profile, 20));
     assert_few_calls(&rt, &ThieleTally::new(&profile, ThieleRule::Av, 20));
 }
 
@@ -154,6 +155,7 @@ fn assert_rules(rt: &impl Abort, profile: &Profile, m: u8, k: u8)
     requires fits { k ≤ m }
 {
     assert_live(rt, &ThieleTally::new(profile, ThieleRule::Pav, k), m, k);
+    assert_live(rt, &ApprovalTally::new(profile, k), m, k);
     assert_live(rt, &SavTally::new(profile), m, k);
     assert_live(rt, &MinimaxTally::new(profile), m, k);
 }

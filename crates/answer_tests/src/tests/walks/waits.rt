@@ -8,7 +8,7 @@ use super::super::support::{Counting, Draw, assert_of, committee_of, election_of
 use ballot_base::{CandSet, KSets, MOST_CANDIDATES, Profile, ThieleRule};
 use std::process::Abort;
 use tie_walk::laws::short_waits;
-use tie_walk::{MinimaxTally, SavTally, Tally, ThieleTally, Winners};
+use tie_walk::{ApprovalTally, MinimaxTally, SavTally, Tally, ThieleTally, Winners};
 
 /// Asserts how many bounds were asked for before each call for a winner, for one seat and three candidates.
 fn assert_bounds<T: Tally>(rt: &impl Abort, tally: &T, counts: &[u128])
@@ -27,8 +27,9 @@ fn assert_bounds<T: Tally>(rt: &impl Abort, tally: &T, counts: &[u128])
 #[test]
 fn bounds_for_one_seat(rt: HostRuntime) {
     let profile = election_of(&rt, rt.alloc(), 3, &[(0b011, 2), (0b100, 1)]);
-    let tally = ThieleTally::new(&profile, ThieleRule::Av, 1);
-    assert_bounds(&rt, &tally, &[1, 4, 7, 8, 8]);
+    let counts = [1, 4, 7, 8, 8];
+    assert_bounds(&rt, &ApprovalTally::new(&profile, 1), &counts);
+    assert_bounds(&rt, &ThieleTally::new(&profile, ThieleRule::Av, 1), &counts);
 }
 
 /// How many bounds a call for a winner asks for if no bound of the tally is too high: few, by the contracts.
@@ -49,7 +50,7 @@ fn bounds_of_approval(profile: &Profile, k: u8) -> u128
     requires fits { k ≤ profile.now.m }
     ensures { result ≤ 4 * profile.now.m }
 {
-    let tally = ThieleTally::new(profile, ThieleRule::Av, k);
+    let tally = ApprovalTally::new(profile, k);
     let mut winners = Winners::new(&tally, profile.m(), k, None);
     bounds_to_the_next(&mut winners)
 }
@@ -139,6 +140,7 @@ fn waits_for_tied_committees(rt: HostRuntime) {
     let profile = election_of(&rt, rt.alloc(), MOST_CANDIDATES, &[(u64::MAX, 1)]);
     let bounds = bounds_of_approval(&profile, 32).min(bounds_of_satisfaction(&profile, 32));
     assert!(rt; bounds >= 32, "a bound for each of 1 to 32");
+    assert_tied(&rt, &ApprovalTally::new(&profile, 32));
     assert_tied(&rt, &SavTally::new(&profile));
 }
 
@@ -146,11 +148,17 @@ fn waits_for_tied_committees(rt: HostRuntime) {
 #[test]
 fn waits_for_the_only_winner(rt: HostRuntime) {
     let profile = election_of(&rt, rt.alloc(), 40, &[((1 << 20) - 1, 1)]);
-    let tally = ThieleTally::new(&profile, ThieleRule::Av, 20);
-    assert!(rt;
-        count_with_waits(&rt, &tally, 20, None, 3) == 1,
-        "the only winner"
-    );
+    let counts = [
+        count_with_waits(&rt, &ApprovalTally::new(&profile, 20), 20, None, 3),
+        count_with_waits(
+            &rt,
+            &ThieleTally::new(&profile, ThieleRule::Av, 20),
+            20,
+            None,
+            3,
+        ),
+    ];
+    assert!(rt; counts == [1, 1], "the only winner");
 }
 
 /// More calls than the elections below have winners of one size.
@@ -199,6 +207,7 @@ fn assert_rules(rt: &impl Abort, profile: &Profile, m: u8, k: u8)
     for rule in &ThieleRule::ALL {
         assert_counted(rt, &ThieleTally::new(profile, *rule, k), m, k);
     }
+    assert_counted(rt, &ApprovalTally::new(profile, k), m, k);
     assert_counted(rt, &SavTally::new(profile), m, k);
     assert_counted(rt, &MinimaxTally::new(profile), m, k);
 }

@@ -1,13 +1,15 @@
-//! The walk against a pass over all committees.
+//! The walk against a pass over all committees, and values of sets that are larger than a committee.
 ghost use Rattle.std.specs.Prelude.{◌≡◌, ◌≤◌};
 ghost use Rattle.ballot_base.specs.Limits.{most_candidates, most_members};
 ghost use Rattle.ballot_base.specs.Lists.{increasing_lists, later_than};
 ghost use Rattle.tie_walk.specs.Winners.{IsStart};
 
-use super::super::support::{Draw, assert_after, election_of, plain_best, random_ballots};
+use super::super::support::{
+    Draw, assert_after, ballot_of, election_of, plain_best, random_ballots,
+};
 use ballot_base::{CandSet, KSets, Profile, ThieleRule};
 use std::process::Abort;
-use tie_walk::{MinimaxTally, SavTally, Tally, ThieleTally, Winners};
+use tie_walk::{ApprovalTally, MinimaxTally, SavTally, Tally, ThieleTally, Winners};
 
 /// The committees of k after a start, or all of them.
 fn later_committees(m: u8, k: u8, start: Option<CandSet>) -> KSets
@@ -64,6 +66,7 @@ fn assert_rules(rt: &impl Abort, profile: &Profile, m: u8, k: u8)
     for rule in &ThieleRule::ALL {
         assert_walks(rt, &ThieleTally::new(profile, *rule, k), m, k);
     }
+    assert_walks(rt, &ApprovalTally::new(profile, k), m, k);
     assert_walks(rt, &SavTally::new(profile), m, k);
     assert_walks(rt, &MinimaxTally::new(profile), m, k);
 }
@@ -78,4 +81,18 @@ fn walks_over_small_elections(rt: HostRuntime) {
             assert_rules(&rt, &profile, m, k);
         }
     }
+}
+
+/// Two voters approve 1, 2 and 3, and one voter only 3. For two seats, a third hit adds nothing: not to the value of all
+/// three, and not to the bound of 1 and 2 with 3.
+#[test]
+fn approvals_past_the_last_seat(rt: HostRuntime) {
+    let profile = election_of(&rt, rt.alloc(), 3, &[(0b111, 2), (0b100, 1)]);
+    let tally = ApprovalTally::new(&profile, 2);
+    let values = [
+        tally.value(ballot_of(3, 0b011)),
+        tally.value(ballot_of(3, 0b111)),
+        tally.bound(2, ballot_of(2, 0b011), 1),
+    ];
+    assert!(rt; values == [4, 5, 5], "{values:?}");
 }
