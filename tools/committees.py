@@ -377,6 +377,15 @@ class Election(NamedTuple):
     def voters(self) -> int:
         return sum(self.ballots.values())
 
+    @property
+    def approvals(self) -> List[int]:
+        """The number of voters who approve each candidate."""
+        found = [0] * (len(self.names) + 1)
+        for ballot, voters in self.ballots.items():
+            for number in ballot:
+                found[number] += voters
+        return found[1:]
+
 
 def metadata(lines: Iterable[bytes]) -> List[Tuple[str, str]]:
     """The metadata of a PrefLib file, as the program reads it: key and value of each line before the first ballot.
@@ -508,6 +517,12 @@ class _Input(NamedTuple):
 HEADER = "# DATA TYPE: cat\n# NUMBER ALTERNATIVES: {}\n"  # of the text that is made of a list of ballots
 
 
+def ballot_text(candidates: int, rows: Iterable[Tuple[Iterable[int], int]]) -> bytes:
+    """The `cat` file of ballots, each with its number of voters."""
+    lines = [f"{voters}: {{{','.join(map(str, numbers))}}}\n" for numbers, voters in rows]
+    return "".join([HEADER.format(candidates), *lines]).encode()
+
+
 def _plain(profile: Any) -> Any:
     """A Series of pandas as a mapping if its values are numbers, and otherwise as a list; anything else as it is. The
     default index 0, 1, 2, .. has no names, so such a Series is a list."""
@@ -571,9 +586,7 @@ def _ballots(profile: Any, candidates: Any) -> _Input:
     known.open = False
     if count is not None:
         highest, highest_at = count, None
-    lines = [f"{voters}: {{{','.join(map(str, numbers))}}}\n" for numbers, voters in rows]
-    text = "".join([HEADER.format(highest), *lines])
-    return _Input(known, text=text.encode(), rows=rows, size=highest, highest_at=highest_at)
+    return _Input(known, text=ballot_text(highest, rows), rows=rows, size=highest, highest_at=highest_at)
 
 
 def _refuse_candidates(candidates: Any) -> None:
@@ -1334,13 +1347,9 @@ def approvals(
     numbers = range(1, len(election.names) + 1)
     by_name = names or known.by_name
     keys: Sequence[Any] = known.names_of(numbers) if by_name else [number - 1 + known.first for number in numbers]
-    found: Dict[Any, int] = dict.fromkeys(keys, 0)
-    if len(found) < len(keys):
+    if len({*keys}) < len(keys):
         raise ValueError("two candidates have the same name, so names=True cannot keep them apart")
-    for ballot, voters in election.ballots.items():
-        for number in ballot:
-            found[keys[number - 1]] += voters
-    return found
+    return dict(zip(keys, election.approvals))
 
 
 # ---- the calls of abcvoting and apportionment

@@ -2,8 +2,10 @@
 import contextlib
 import doctest
 import os
+import pathlib
 import sys
 import tempfile
+import time
 import unittest
 from fractions import Fraction
 from unittest import mock
@@ -29,6 +31,16 @@ def program_that(script):
             file.write(f"#!/bin/sh\ncat >/dev/null\n{script}\n")
         os.chmod(path, 0o755)
         yield path
+
+
+def pid_of(program):
+    """The number of the process of a program, which it writes into a file beside itself: `echo $$ >$0.pid`."""
+    file = pathlib.Path(f"{program}.pid")
+    for _ in range(200):
+        if file.exists() and file.read_text():
+            break
+        time.sleep(0.05)
+    return int(file.read_text())
 
 
 class Voter:

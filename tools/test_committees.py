@@ -516,8 +516,9 @@ class Types(unittest.TestCase):
             notebook = os.path.join(room, "notebook.py")
             pathlib.Path(notebook).write_text(NOTEBOOK)
             packages = os.path.join(TOP, "packages")
+            own = ("committees.py", "committee_answers.py", "committee_pages.py", "committee_pictures.py")
             others = (os.path.join(TOP, "install"), os.path.join(packages, "make_packages"), notebook)
-            for file in ("committees.py", "draw_committee", "table_to_cat", *others):
+            for file in (*own, "draw_committee", "report_election", "table_to_cat", *others):
                 words = [mypy, "--strict", f"--cache-dir={room}", file]
                 environment = {**os.environ, "MYPYPATH": f"{HERE}:{packages}"}
                 run = subprocess.run(words, capture_output=True, text=True, cwd=HERE, env=environment)

@@ -8,13 +8,12 @@ import subprocess
 import sys
 import tempfile
 import threading
-import time
 import unittest
 
 HERE = os.path.dirname(os.path.realpath(__file__))
 sys.path.insert(0, HERE)
 import committees  # noqa: E402
-from test_answers import BOARD, program_that  # noqa: E402
+from test_answers import BOARD, pid_of, program_that  # noqa: E402
 
 PARTIES = os.path.join(os.path.dirname(BOARD), "parties.cat")
 SONGS = os.path.join(os.path.dirname(BOARD), "songs.soi")
@@ -200,20 +199,17 @@ class Programs(unittest.TestCase):
         )
 
     def test_an_interrupt_ends_the_program(self):
-        with program_that("echo $$ >$0.pid; exec sleep 60") as program:
-            folder = os.path.dirname(program)
-            os.rename(program, os.path.join(folder, "committees"))
+        with program_that("echo $$ >$0.pid; exec sleep 60") as path:
+            folder = os.path.dirname(path)
+            program = os.path.join(folder, "committees")
+            os.rename(path, program)
             words = [*COMMAND, "elect", "--rule=av", "--size=1"]
             options = {"cwd": "/", "stdin": subprocess.DEVNULL}
             process = subprocess.Popen(words, env=self.environment(self.module, folder), **options)
-            pid = pathlib.Path(folder, "committees.pid")
-            for _ in range(200):
-                if pid.exists() and pid.read_text().strip():
-                    break
-                time.sleep(0.05)
+            pid = pid_of(program)
             process.send_signal(signal.SIGINT)
             self.assertEqual(process.wait(20), 130)
-            self.assertFalse(os.path.exists(f"/proc/{pid.read_text().strip()}"))
+            self.assertFalse(os.path.exists(f"/proc/{pid}"))
 
 
 if __name__ == "__main__":

@@ -6,7 +6,6 @@ import signal
 import subprocess
 import sys
 import tempfile
-import time
 import unittest
 from xml.etree import ElementTree
 
@@ -14,7 +13,7 @@ HERE = os.path.dirname(os.path.realpath(__file__))
 TOP = os.path.dirname(HERE)
 sys.path.insert(0, HERE)
 import committees  # noqa: E402
-from test_answers import program_that  # noqa: E402
+from test_answers import pid_of, program_that  # noqa: E402
 
 EXAMPLES = os.path.join(TOP, "examples")
 BOARD = os.path.join(EXAMPLES, "board.cat")
@@ -41,13 +40,16 @@ class Shown:
         self.width = int(root.get("width"))
         self.size = len(svg)
         self.title = root.find(f"{name}title").text
+        self.description = root.find(f"{name}desc").text
+        self.style = root.find(f"{name}style").text
         self.texts = [element.text for element in root.iter(f"{name}text")]
         self.bold = [element.text for element in root.iter(f"{name}text") if element.get("font-weight")]
         self.turned = [element.text for element in root.iter(f"{name}text") if element.get("transform")]
         boxes = list(root.iter(f"{name}rect"))
         self.outlines = [box for box in boxes if box.get("stroke-dasharray") == "7 4"]
         self.cells = [box for box in boxes if box.get("stroke-opacity")]
-        self.filled = [box for box in boxes if box.get("fill") == "#4c78a8"][:-1]  # the last one is of the legend
+        self.filled = [box for box in boxes if box.get("class") == "yes"][:-1]  # the last one is of the legend
+        self.bars = [float(box.get("height")) for box in boxes if box.get("class") == "yes bar"]
         self.columns = [box for box in boxes if box.get("fill-opacity")]
         self.labels = [text for text in self.texts if LABEL.fullmatch(text)]
         self.voters = sum(int(LABEL.fullmatch(text)[1].replace(",", "")) for text in self.labels)
@@ -76,21 +78,44 @@ def at(box):
 class Elections(unittest.TestCase):
     def test_a_winner(self):
         shown = Shown(BOARD, "--rule", "pav", "--size", "3")
-        self.assertEqual(shown.labels, ["7 voters", "2 voters", "1 voter"])
+        # Those who are left out come first, within one outline, and the largest group of them first of all.
+        self.assertEqual(shown.labels, ["2 voters", "1 voter", "7 voters"])
         self.assertEqual(shown.bold, ["Ada", "1", "Ben", "2", "Cleo", "3"])
         self.assertEqual(shown.title, "The candidates that each voter approves, and the committee Ada, Ben, Cleo")
         self.assertEqual(len(shown.columns), 3)
         self.assertEqual(len(shown.cells), 18)
         # three by the first group, two by the second, one by the third
         self.assertEqual(len(shown.filled), 6)
-        self.assertEqual(len(shown.outlines), 2)
+        self.assertEqual(len(shown.outlines), 1)
+        first, second = shown.cells[0], shown.cells[6]
+        bottom = float(second.get("y")) + float(second.get("height"))
+        self.assertEqual(float(shown.outlines[0].get("y")), float(first.get("y")) - 2)
+        self.assertEqual(float(shown.outlines[0].get("height")), bottom - float(first.get("y")) + 4)
         self.assertIn("pav, 3 seats: Ada, Ben and Cleo with the score 77/6.", shown.texts)
         self.assertIn("3 of 10 voters approve no member of the committee.", shown.texts)
+        self.assertIn("3 of 10 voters approve no member of the committee.", shown.description)
+
+    def test_bars_of_approvals(self):
+        shown = Shown(BOARD, "--rule", "pav", "--size", "3")
+        self.assertEqual(shown.bars, [60, 60, 60, 17.14, 17.14, 8.571])  # 7, 2 and 1 of 7
+        at_end = shown.texts[shown.texts.index("approvals") :]
+        self.assertEqual(at_end[1:7], ["7", "7", "7", "2", "2", "1"])
+        empty = Shown("--rule", "av", "--size", "1", text=b"# DATA TYPE: cat\n# NUMBER ALTERNATIVES: 2\n1: {}\n")
+        self.assertEqual(empty.bars, [])
+        # Numbers that are wider than a column are turned.
+        text = b"# DATA TYPE: cat\n# NUMBER ALTERNATIVES: 64\n1234567: 2\n1: 1\n"
+        self.assertIn("1,234,567", Shown("--rule", "av", "--size", "1", text=text).turned)
+
+    def test_the_dark(self):
+        style = Shown(BOARD, "--rule", "pav", "--size", "3").style
+        self.assertIn("@media screen and (prefers-color-scheme: dark)", style)
+        for name in ("ink", "paper", "cell", "yes", "seat", "out"):
+            self.assertIn(f".{name} {{", style)
 
     def test_heights_are_shares(self):
         shown = Shown(BOARD, "--rule", "pav", "--size", "3")
         heights = [float(cell.get("height")) for cell in shown.cells[::6]]
-        self.assertEqual([round(height / heights[2]) for height in heights], [7, 2, 1])
+        self.assertEqual([round(height / heights[1]) for height in heights], [2, 1, 7])
         tops = [float(cell.get("y")) for cell in shown.cells[::6]]
         self.assertTrue(all(top + height < below for top, height, below in zip(tops, heights, tops[1:])))
 
@@ -154,8 +179,8 @@ class Ballots(unittest.TestCase):
 
     def test_blanks_and_ends_of_lines(self):
         shown = Shown("--rule", "av", "--size", "1", text=self.CAT)
-        # {1, 2}, {3} twice, and two ballots without an approval
-        self.assertEqual(shown.labels, ["7 voters", "3 voters", "4 voters"])
+        # Two ballots without an approval, {3} twice, and {1, 2}. Candidate 1 wins.
+        self.assertEqual(shown.labels, ["4 voters", "3 voters", "7 voters"])
         self.assertEqual(len(shown.filled), 3)
         self.assertIn("Ada", shown.texts)
 
@@ -246,16 +271,19 @@ class Shapes(unittest.TestCase):
     def test_many_voters(self):
         shown = Shown("--rule", "av", "--size", "2", text=self.many(800, 10))
         self.assertEqual(shown.voters, 800)
-        self.assertEqual(len(shown.labels), 42)
-        # 800 ballots, none twice. 40 have a row of their own. The committee is 1 and 2, so voters 4, 8, 12, .. are left
-        # out, 200 in all; ten of them are among the first 40.
-        self.assertEqual(shown.labels[40:], ["190 voters, 190 ballots", "570 voters, 570 ballots"])
+        # 800 ballots, none twice, so none has a row of its own. The committee is 1 and 2, so voters 4, 8, 12, .. are
+        # left out, and come first. 400 approve one member, and 3, 7, 11, .. both.
+        rows = ["200 voters, 200 ballots", "400 voters, 400 ballots", "200 voters, 200 ballots"]
+        self.assertEqual(shown.labels, rows)
+        self.assertEqual(len(shown.outlines), 1)
         self.assertLess(shown.height, 1600)
         self.assertLess(shown.size, 200_000)
         self.assertIn("In a row of several ballots, blue is the share of the voters who approve.", shown.texts)
+        words = "Ballots of few voters share a row if they approve equally many members of the committee."
+        self.assertIn(words, shown.description)
         equal = Shown("--rule", "av", "--size", "1", text=b"# DATA TYPE: cat\n# NUMBER ALTERNATIVES: 2\n800: 1\n1: 2\n")
-        self.assertEqual(equal.labels, ["800 voters", "1 voter"])
-        self.assertEqual([float(cell.get("height")) for cell in equal.cells[::2]], [439.5, 14])
+        self.assertEqual(equal.labels, ["1 voter", "800 voters"])
+        self.assertEqual([float(cell.get("height")) for cell in equal.cells[::2]], [14, 439.5])
         self.assertLess(equal.height, 700)
 
     def test_small_groups_share_a_row(self):
@@ -263,7 +291,7 @@ class Shapes(unittest.TestCase):
         lines = [f"{n}: {{{''.join(f'{place + 1},' for place in range(6) if n >> place & 1)}7}}" for n in range(1, 43)]
         text = "\n".join(["# DATA TYPE: cat", "# NUMBER ALTERNATIVES: 7", *lines]).encode()
         shown = Shown("--rule", "av", "--size", "1", text=text)
-        self.assertEqual(shown.labels, [*(f"{n} voters" for n in range(3, 43)), "3 voters, 2 ballots"])
+        self.assertEqual(shown.labels, [*(f"{n} voters" for n in range(42, 2, -1)), "3 voters, 2 ballots"])
         row = shown.cells[-7:]
         widths = [
             [
@@ -335,20 +363,16 @@ class Refusals(unittest.TestCase):
         with program_that("echo $$ >$0.pid; exec sleep 60") as program:
             words = [sys.executable, os.path.join(HERE, "draw_committee"), BOARD, "--rule=av", "--size=1"]
             process = subprocess.Popen([*words, "--program", program], stderr=subprocess.PIPE)
-            pid = pathlib.Path(f"{program}.pid")
-            for _ in range(200):
-                if pid.exists() and pid.read_text():
-                    break
-                time.sleep(0.05)
+            pid = pid_of(program)
             process.send_signal(signal.SIGINT)
             self.assertEqual((process.communicate(timeout=20)[1], process.returncode), (b"", 130))
-            self.assertFalse(os.path.exists(f"/proc/{pid.read_text().strip()}"))
+            self.assertFalse(os.path.exists(f"/proc/{pid}"))
 
     def test_a_reader_that_is_gone(self):
         words = [sys.executable, os.path.join(HERE, "draw_committee"), BOARD, "--rule=av", "--size=1"]
         process = subprocess.Popen(words, stdout=subprocess.PIPE, stderr=subprocess.PIPE)
         process.stdout.close()
-        self.assertEqual(process.stderr.read(), b"draw_committee: the picture could not be written\n")
+        self.assertEqual(process.stderr.read(), b"draw_committee: standard output: Broken pipe\n")
         process.stderr.close()
         self.assertEqual(process.wait(), 1)
 

@@ -4,7 +4,6 @@ import importlib.util
 import io
 import os
 import re
-import resource
 import shutil
 import subprocess
 import sys
@@ -18,9 +17,9 @@ sys.path.insert(0, HERE)
 from committees import InputRefused, check, elect  # noqa: E402
 
 
-def tool_module():
-    """The tool as a module."""
-    loader = importlib.machinery.SourceFileLoader("table_to_cat", os.path.join(HERE, "table_to_cat"))
+def module_of(tool):
+    """A tool as a module."""
+    loader = importlib.machinery.SourceFileLoader(tool, os.path.join(HERE, tool))
     module = importlib.util.module_from_spec(importlib.util.spec_from_loader(loader.name, loader))
     # dataclasses look their module up
     sys.modules[loader.name] = module
@@ -28,7 +27,7 @@ def tool_module():
     return module
 
 
-tool = tool_module()
+tool = module_of("table_to_cat")
 
 # -S: the packages of the machine are not looked for, which takes half of the time
 TOOL = [sys.executable, "-S", os.path.join(HERE, "table_to_cat")]
@@ -1110,10 +1109,10 @@ def workbook(*sheets, merged="", hidden=(), hidden_sheet=False):
     return made.getvalue()
 
 
-def python_with_openpyxl():
-    """An interpreter that has openpyxl, or None."""
+def python_with(module):
+    """An interpreter that has this module, or None."""
     for python in (sys.executable, shutil.which("python3", path=os.defpath)):
-        if python and subprocess.run([python, "-c", "import openpyxl"], capture_output=True).returncode == 0:
+        if python and subprocess.run([python, "-c", f"import {module}"], capture_output=True).returncode == 0:
             return python
     return None
 
@@ -1170,7 +1169,7 @@ class OtherSpreadsheets(TableTest):
 class Workbooks(TableTest):
     @classmethod
     def setUpClass(cls):
-        cls.python = python_with_openpyxl()
+        cls.python = python_with("openpyxl")
         if not cls.python:
             raise unittest.SkipTest("no interpreter has openpyxl")
 
@@ -1289,10 +1288,16 @@ class Workbooks(TableTest):
 class LargeTables(TableTest):
     def test_100000_rows(self):
         rows = "".join(f"{at},{'x' * (at % 2)},{'x' * (at % 3 > 0)},,x\n" for at in range(100_000))
-        said = self.made(f"Time,Ada,Ben,Cleo,Dan\n{rows}", "--skip=1")[2]
-        self.assertIn("   50000  for Ada\n   66666  for Ben\n       0  for Cleo\n  100000  for Dan\n", said)
-        # in kilobytes, of the largest child so far
-        self.assertLess(resource.getrusage(resource.RUSAGE_CHILDREN).ru_maxrss, 200_000)
+        # Prints the kilobytes that the tool took, as a process that has no other child.
+        script = (
+            "import resource, subprocess, sys; subprocess.run(sys.argv[1:], check=True);"
+            "print(resource.getrusage(resource.RUSAGE_CHILDREN).ru_maxrss)"
+        )
+        words = [sys.executable, "-c", script, *TOOL, "--skip=1"]
+        run = subprocess.run(words, input=f"Time,Ada,Ben,Cleo,Dan\n{rows}".encode(), capture_output=True)
+        sums = b"   50000  for Ada\n   66666  for Ben\n       0  for Cleo\n  100000  for Dan\n"
+        self.assertIn(sums, run.stderr)
+        self.assertLess(int(run.stdout.split()[-1]), 200_000)
 
 
 class CommandLine(TableTest):
