@@ -18,7 +18,6 @@ use ballot_base::CandSet;
 use row_bounds::Node;
 use row_bounds::multipliers::RowBound;
 use std::alloc::Allocator;
-use tie_search::Ranked;
 use tie_search::descent::{Narrowing, Plan};
 use tie_walk::{MinimaxTally, Tally};
 
@@ -59,7 +58,7 @@ impl<A: Allocator + Copy> Narrowing for MinimaxSearch<'_, A> {
         Some(Plan {
             eligible: needs.narrowed(&here)?,
             choices,
-            worths: Ranked::by_worth(needs.worths, free),
+            worths: needs.worths,
             due: needs.due.saturating_sub(needs.paid),
             least,
         })

@@ -29,7 +29,6 @@ use row_bounds::Node;
 use row_bounds::multipliers::{self, Effort};
 use std::alloc::Allocator;
 use thiele_bounds::{AGAIN, HitSums, NODE, PriceSearch, Priced, pairs};
-use tie_search::Ranked;
 use tie_search::descent::{Narrowing, Plan};
 use tie_walk::Tally;
 
@@ -48,7 +47,7 @@ pub(crate) struct Aids<A: Allocator> {
 impl<'a, A: Allocator + Copy> ThieleSearch<'a, A> {
     /// The free candidates of a node that can still join, by the gains of its set or of a set with fewer members.
     /// Returns `None` only if no completion of the set reaches the value.
-    fn promising(&self, gains: &Ranked, node: &Node, least: u128) -> Option<CandSet>
+    fn promising(&self, gains: &Worths, node: &Node, least: u128) -> Option<CandSet>
         requires is_node { IsNode self.now.election.m node.now.set node.now.free }
         requires valued { IsValued self.now node.now.set node.now.value }
         requires gains { (n : ℕ) → has_member node.now.free n ≡ true
@@ -186,7 +185,7 @@ impl<'a, A: Allocator + Copy> Narrowing for ThieleSearch<'a, A> {
         Some(Plan {
             eligible,
             choices: eligible,
-            worths: Ranked::by_worth(gains, eligible),
+            worths: gains,
             due,
             least,
         })

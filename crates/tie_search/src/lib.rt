@@ -7,8 +7,8 @@
 //! `SearchWinners` lists the winners. It asks a search for each of them, so it goes only where a winner is. A walk over
 //! plain bounds enters a prefix in vain if its bound reaches the highest value and no committee below it does.
 //!
-//! `descent` is the search that both make, from set to set. It tries candidates as they are `ranked` by worth. `found`
-//! is what it has found so far.
+//! `descent` is the search that both make, from set to set. It tries candidates by their worth. `found` is what it has
+//! found so far.
 #![tactic(auto)]
 
 mod asking;
@@ -16,11 +16,9 @@ mod best;
 mod branch;
 pub mod descent;
 pub mod found;
-pub mod ranked;
 pub mod searchable;
 pub mod winners;
 
 pub use found::{MOST_TIED, Tied};
-pub use ranked::Ranked;
 pub use searchable::{Searchable, WithClones};
 pub use winners::SearchWinners;

@@ -52,10 +52,8 @@ returns g c =
       record {
         valid = rw c.self.view_is at c.self.invariant.0;
         is_node = fewer.is_node;
-        pays = rw c.by_worth.ensures (
-            paid-fewer V e.m node.set free kept node.left c.args.least c.saturating_sub.result (slice_index needs.worths) (first g at).is_node fewer.is_node fewer.among
-            (λ committee whole reaches. omega (arith, c.saturating_sub.ensures, pays g at committee whole reaches))
-            );
+        pays = paid-fewer V e.m node.set free kept node.left c.args.least c.saturating_sub.result (slice_index needs.worths) (first g at).is_node fewer.is_node fewer.among
+            (λ committee whole reaches. omega (arith, c.saturating_sub.ensures, pays g at committee whole reaches));
       },
       refl,
     )

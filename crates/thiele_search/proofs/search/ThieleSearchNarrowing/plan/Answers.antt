@@ -43,6 +43,6 @@ returns g c =
     let both : IsNarrowed V m node.set node.free node.left c.args.least eligible = narrowed-more V m node.set node.free free node.left c.args.least (first g at) eligible fewer in (
       both,
       narrowed-choice V m node.set node.free eligible node.left c.args.least both eligible (choice-of_all V m node.set eligible node.left c.args.least both.is_node c.requires.some),
-      (λ n is. ap (λ (worths : List ℕ). get_or worths n 0) c.by_worth.ensures ∙ c.gains_at-gains.ensures n (fewer.among n is)),
+      (λ n is. c.gains_at-gains.ensures n (fewer.among n is)),
       refl,
     )
