@@ -167,13 +167,11 @@ impl<A: Allocator + Copy> RowBound for NeedSearch<'_, A> {
             let (ballot, _voters) = self.profile.row(i);
             let needed = still_needed(ballot, node, self.most);
             if needed > 0 {
-                weights.want(
-                    i,
-                    Wanted {
-                        fewest: needed,
-                        most: needed,
-                    },
-                );
+                let wanted = Wanted {
+                    fewest: needed,
+                    most: needed,
+                };
+                weights.want(i, wanted);
                 square = square.saturating_add(weights.aim(i, ballot.common(best).len()));
             }
         }

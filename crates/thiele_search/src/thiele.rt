@@ -68,10 +68,7 @@ impl<'a, A: Allocator + Copy + Drop> SearchMemory<'a, A> {
 fn rows_per_visit(rule: ThieleRule) -> usize
     ensures { 1 ≤ result }
 {
-    match rule {
-        ThieleRule::Cc => 8,
-        _ => 32,
-    }
+    if rule == ThieleRule::Cc { 8 } else { 32 }
 }
 
 /// A search among the committees of `k` under a Thiele rule. A value is the score times the common denominator of the
