@@ -38,7 +38,7 @@ of-requires g c =
 joined : (g : _) (c : After-of g) → IsValued c.args.self.now (with_member c.args.node.now.set c.args.next) (c.args.node.now.value + c.of.result)
 joined g c =
     let node = c.args.node.now in
-    valued-more c.args.self.now node.set node.free c.args.plan.now.worths node.value c.args.next c.of.result c.requires.node.valued c.requires.node.is_node c.requires.next (λ n is. c.requires.plan.is_plan n (c.requires.plan.among n is)) c.of.ensures
+    valued-more c.args.self.now node.set node.free c.args.plan.now.worths node.value c.args.next c.of.result c.requires.node.valued c.requires.node.is_node c.requires.next (λ n is. c.requires.plan.is_plan n (c.requires.plan.among n is)) c.of.ensures.value
 
 pub overflow_add-child : goal.overflow_add-child
 overflow_add-child g c =

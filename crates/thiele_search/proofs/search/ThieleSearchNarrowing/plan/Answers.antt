@@ -1,4 +1,4 @@
-use Rattle.std.proofs.Common.{ℕ, ◌∙◌, List, ap, get_or, refl}
+use Rattle.std.proofs.Common.{refl}
 use Rattle.tie_walk.specs.Values.{tally_value}
 use Rattle.row_bounds.specs.Steps.Narrowed.{IsNarrowed, Narrows}
 use Rattle.row_bounds.proofs.NarrowedLemmas.{narrowed-more, narrowed-out}
