@@ -1,2 +1,4 @@
+pub mod Approvals
+pub mod Deserved
 pub mod Exchanges
-pub mod Covered
+pub mod Losses

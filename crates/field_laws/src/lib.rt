@@ -3,3 +3,4 @@
 #![tactic(auto)]
 
 pub mod representation;
+pub mod votes;

@@ -1,5 +1,6 @@
 //! Which rules represent groups of voters.
 ghost use Rattle.std.specs.Prelude.{ℕ, ◌≤◌, List, Contains};
+ghost use Rattle.ballot_base.specs.Limits.{most_members};
 ghost use Rattle.ballot_base.specs.Ballots.{Election, IsElection, voter_count};
 ghost use Rattle.tie_walk.specs.Values.{thiele_of, tally_value};
 ghost use Rattle.tie_walk.specs.Winners.{winners};
@@ -15,4 +16,14 @@ pub fn chamberlin_courant_is_justified()
     ensures { (e : Election) (k : ℕ) (committee : List ℕ) → IsElection e → 1 ≤ voter_count e.rows
         → Contains (winners (tally_value (thiele_of e ThieleRule.Cc k)) e.m k) committee
         → HasProperty Property.Jr e committee }
+{}
+
+/// If there is a voter, each winner under proportional approval voting has all properties: EJR+ (Brill and Peters,
+/// Robust and Verifiable Proportionality Axioms for Multiwinner Voting, 2023), so extended justified representation
+/// (Aziz, Brill, Conitzer, Elkind, Freeman and Walsh, 2017), and so the other two.
+pub fn proportional_approval_has_all()
+    ensures { (e : Election) (k : ℕ) (committee : List ℕ) → IsElection e
+        → 1 ≤ voter_count e.rows → k ≤ most_members
+        → Contains (winners (tally_value (thiele_of e ThieleRule.Pav k)) e.m k) committee
+        → (property : Property) → HasProperty property e committee }
 {}

@@ -1,5 +1,5 @@
-use Rattle.field_laws.proofs.Covered.{winner-justified}
+use Rattle.field_laws.proofs.Deserved.{cc-justified}
 use Rattle.field_laws.proofs.representation.chamberlin_courant_is_justified.Goals as goal
 
 pub returns : goal.returns
-returns c = winner-justified
+returns c = cc-justified

@@ -1,0 +1,22 @@
+//! What approval voting elects.
+ghost use Rattle.std.specs.Prelude.{◌≡◌, ℕ, ◌≤◌, ◌↔◌, false, true, List, length, Contains};
+ghost use Rattle.ballot_base.specs.Limits.{most_members};
+ghost use Rattle.ballot_base.specs.Lists.{IsIncreasing};
+ghost use Rattle.ballot_base.specs.CandSet.{has_member};
+ghost use Rattle.ballot_base.specs.Ballots.{Election, IsElection, voter_count};
+ghost use Rattle.tie_walk.specs.Sequences.{supporters};
+ghost use Rattle.tie_walk.specs.Values.{thiele_of, tally_value};
+ghost use Rattle.tie_walk.specs.Winners.{winners};
+
+use ballot_base::ThieleRule;
+
+/// Approval voting elects exactly the committees of the candidates with the most approvals: those of size k in which no
+/// candidate outside has more supporters than a member (Lackner and Skowron, Multi-Winner Voting with Approval
+/// Preferences).
+pub fn approvals_decide()
+    ensures { (e : Election) (k : ℕ) (committee : List ℕ) → IsElection e → k ≤ most_members
+        → Contains (winners (tally_value (thiele_of e ThieleRule.Av k)) e.m k) committee
+        ↔ (IsIncreasing 1 e.m committee × (length committee ≡ k) × ((member other : ℕ)
+        → has_member committee member ≡ true → has_member committee other ≡ false
+        → voter_count (supporters e.rows other) ≤ voter_count (supporters e.rows member))) }
+{}
