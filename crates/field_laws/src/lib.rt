@@ -2,5 +2,5 @@
 //! stand on them. Each function does nothing, and its contract is the theorem.
 #![tactic(auto)]
 
+pub mod approval_voting;
 pub mod representation;
-pub mod votes;

@@ -1,5 +1,5 @@
 use Rattle.field_laws.proofs.Approvals.{approvals-decide}
-use Rattle.field_laws.proofs.votes.approvals_decide.Goals as goal
+use Rattle.field_laws.proofs.approval_voting.elects_the_most_approved.Goals as goal
 
 pub returns : goal.returns
 returns c = approvals-decide

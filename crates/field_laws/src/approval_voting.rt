@@ -13,7 +13,7 @@ use ballot_base::ThieleRule;
 /// Approval voting elects exactly the committees of the candidates with the most approvals: those of size k in which no
 /// candidate outside has more supporters than a member (Lackner and Skowron, Multi-Winner Voting with Approval
 /// Preferences).
-pub fn approvals_decide()
+pub fn elects_the_most_approved()
     ensures { (e : Election) (k : ℕ) (committee : List ℕ) → IsElection e → k ≤ most_members
         → Contains (winners (tally_value (thiele_of e ThieleRule.Av k)) e.m k) committee
         ↔ (IsIncreasing 1 e.m committee × (length committee ≡ k) × ((member other : ℕ)
