@@ -31,6 +31,7 @@ av-sum k (suc h) most few =
     let next : sum (take (suc h) (increments Av k)) ≡ sum (take (h + 1) (increments Av k)) = ap (λ n. sum (take n (increments Av k))) (let e : suc h ≡ h + 1 = omega arith in e) in
     omega (arith, next, sum-take_more (increments Av k) h, increments-within Av k h (omega (arith, few, most)) (omega (arith, few)), av-sum k h most (omega (arith, few)))
 
+-- nobody has more hits than the set has members
 hits-few : (m : ℕ) (ballot set : List ℕ) → IsIncreasing 1 m ballot → IsIncreasing 1 m set → hits ballot set ≤ length set
 hits-few m ballot set up set_up = omega (arith, hits-turned 1 m ballot set up set_up, count_by-le-length (has_member ballot) set)
 
@@ -108,6 +109,7 @@ av-value m k set (row ∷ rows) most up size all =
       av-value m k set rows most up size all.1,
     )
 
+-- the terms that pass, and the others
 sum-split : (f : ℕ → ℕ) (p : ℕ → Bool) (xs : List ℕ) → sum_by f xs ≡ sum_by f (filter p xs) + sum_by f (filter (λ n. not (p n)) xs)
 sum-split f p [] = refl
 sum-split f p (x ∷ xs) = grind (arith, common_steps, sum-split f p xs, sum_by-cons)
@@ -148,6 +150,7 @@ sum-best f m set other up rises size each =
     each x c inside.1 (not-member (has_member set c) outside.0)) in
     omega (arith, less, ap (sum_by f) both, sum-split f (has_member other) set, sum-split f (has_member set) other)
 
+-- a committee without a member who has fewer approvals than a candidate outside has the highest value
 from-approvals : (e : Election) (k : ℕ) (committee : List ℕ) → IsElection e → k ≤ most_members → IsIncreasing 1 e.m committee → length committee ≡ k
     → ((x c : ℕ) → has_member committee x ≡ true → has_member committee c ≡ false → voter_count (supporters e.rows c) ≤ voter_count (supporters e.rows x))
     → Contains (winners (tally_value (thiele_of e Av k)) e.m k) committee
@@ -170,6 +173,7 @@ from-approvals e k committee valid most up size each =
       ),
     )
 
+-- both ways
 pub approvals-decide : (e : Election) (k : ℕ) (committee : List ℕ) → IsElection e → k ≤ most_members
     → Contains (winners (tally_value (thiele_of e Av k)) e.m k) committee
     ↔ (IsIncreasing 1 e.m committee × (length committee ≡ k) × ((x c : ℕ) → has_member committee x ≡ true → has_member committee c ≡ false → voter_count (supporters e.rows c) ≤ voter_count (supporters e.rows x)))

@@ -33,12 +33,14 @@ use Rattle.field_laws.proofs.Losses.{no-group}
 
 -- ---- a candidate whom all these ballots approve, and who passes a test
 
+-- what is known of such a candidate
 pub record IsShared (m : ℕ) (q : ℕ → Bool) (ballots : List (List ℕ)) (c : ℕ) : Type 0 where
   pub low : 1 ≤ c
   pub high : c ≤ m
   pub passes : q c ≡ true
   pub approved : list_all (λ ballot. has_member ballot c) ballots ≡ true
 
+-- there is one if some candidate in common passes
 shared : (m : ℕ) (q : ℕ → Bool) (ballots : List (List ℕ)) → list_any q (common_candidates m ballots) ≡ true → (c : ℕ) × IsShared m q ballots c
 shared m q ballots some =
     let found = outside_of m q ballots some in
@@ -53,6 +55,7 @@ some-any (c ∷ list) some = refl
 
 -- ---- Chamberlin-Courant
 
+-- whoever approves a member has a hit
 hit : (ballot set : List ℕ) (n : ℕ) → has_member ballot n ≡ true → has_member set n ≡ true → 1 ≤ hits ballot set
 hit [] set n here is = absurd cc
 hit (x ∷ ballot) set n here is =
@@ -78,6 +81,7 @@ outside committee c (row ∷ rows) (suc n ∷ group) is some share none =
 cc-first : (k : ℕ) → 1 ≤ k → weight (increments Cc k) 1 ≡ 1
 cc-first k some = increments-within Cc k 0 (omega arith) some
 
+-- the increments after the first are 0
 cc-later : (k i : ℕ) → get_or (increments Cc k) (suc i) 0 ≡ 0
 cc-later k i = elim (cases_lt (suc i) k) [
   | inl low ↦ elim (cases_lt (suc i) most_members) [
@@ -87,15 +91,18 @@ cc-later k i = elim (cases_lt (suc i) k) [
   | inr high ↦ increments-past Cc k (suc i) high
 ]
 
+-- so all hits together give 1 at most
 cc-most : (k : ℕ) → 1 ≤ k → (h : ℕ) → h * weight (increments Cc k) h ≤ 1
 cc-most k some zero = omega arith
 cc-most k some (suc zero) = omega (arith, cc-first k some)
 cc-most k some (suc (suc h)) = omega (arith, ap (λ n. suc (suc h) * n) (cc-later k h))
 
+-- and the first hit gives 1
 cc-least : (k : ℕ) → 1 ≤ k → (h : ℕ) → h < 1 → 1 ≤ weight (increments Cc k) (h + 1)
 cc-least k some zero low = omega (arith, cc-first k some)
 cc-least k some (suc h) low = absurd (omega arith)
 
+-- A group that breaks justified representation has a shared candidate outside the winner, and no hits.
 pub cc-justified : (e : Election) (k : ℕ) (committee : List ℕ) → IsElection e → 1 ≤ voter_count e.rows → Contains (winners (tally_value (thiele_of e Cc k)) e.m k) committee → HasProperty Jr e committee
 cc-justified e k committee valid voters wins level least most broken =
     let group = broken.0 in
@@ -142,6 +149,7 @@ pav-least k level h most some within below =
     let rises = le-div (common_multiple k / level) (common_multiple k) (h + 1) (omega arith) (omega (arith, part, quotient-exact k level some within)) in
     omega (arith, place, is, rises)
 
+-- A group that breaks EJR+ has a shared candidate outside the winner, and fewer hits than the level.
 pav-represents : (e : Election) (k : ℕ) (committee : List ℕ) → IsElection e → 1 ≤ voter_count e.rows → k ≤ most_members → Contains (winners (tally_value (thiele_of e Pav k)) e.m k) committee
     → HasProperty EjrPlus e committee
 pav-represents e k committee valid voters fits wins level least most broken =

@@ -15,10 +15,12 @@ use Rattle.group_check.specs.Groups.{breaks}
 alike : Election
 alike = election 3 ([] ∷ [] ∷ [] ∷ []) ((1 ∷ 2 ∷ [], 2) ∷ [])
 
+-- all committees cover all voters
 one_seat_by_cc : winners (tally_value (thiele_of alike Cc 2)) 3 2 ≡ (1 ∷ 2 ∷ []) ∷ (1 ∷ 3 ∷ []) ∷ (2 ∷ 3 ∷ []) ∷ []
 unfolding lists_of increments alike
 one_seat_by_cc = refl
 
+-- they have one member of two
 they_deserve_two : breaks Pjr alike (1 ∷ 3 ∷ []) 2 (2 ∷ []) ≡ true
 unfolding alike
 they_deserve_two = refl
@@ -32,6 +34,7 @@ one_seat_by_pav : winners (tally_value (thiele_of apart Pav 2)) 3 2 ≡ (1 ∷ 3
 unfolding lists_of increments common_multiple apart
 one_seat_by_pav = refl
 
+-- so the winners under proportional approval voting are not the most approved
 more_approve_1_than_3 : (voter_count (supporters apart.rows 1) ≡ 3) × (voter_count (supporters apart.rows 3) ≡ 2)
 unfolding apart
 more_approve_1_than_3 = (refl, refl)
@@ -40,10 +43,12 @@ more_approve_1_than_3 = (refl, refl)
 majority : Election
 majority = election 4 ([] ∷ [] ∷ [] ∷ [] ∷ []) ((1 ∷ 2 ∷ 3 ∷ [], 2) ∷ (4 ∷ [], 1) ∷ [])
 
+-- the two have all seats
 all_seats_by_av : winners (tally_value (thiele_of majority Av 3)) 4 3 ≡ (1 ∷ 2 ∷ 3 ∷ []) ∷ []
 unfolding lists_of increments majority
 all_seats_by_av = refl
 
+-- and the one has none
 the_one_deserves_one : breaks Jr majority (1 ∷ 2 ∷ 3 ∷ []) 1 (0 ∷ 1 ∷ []) ≡ true
 unfolding majority
 the_one_deserves_one = refl
@@ -52,6 +57,7 @@ the_one_deserves_one = refl
 nobody : Election
 nobody = election 2 ([] ∷ [] ∷ []) []
 
+-- it is large enough, agrees on everyone, and approves no member
 nobody_breaks : breaks Jr nobody (1 ∷ []) 1 [] ≡ true
 unfolding nobody
 nobody_breaks = refl

@@ -16,10 +16,12 @@ use Rattle.tie_walk.proofs.LawLemmas.{no_greater_value, winner-is}
 use Rattle.tie_walk.proofs.SequenceLemmas.{length-without_member}
 use Rattle.group_check.proofs.SetLemmas.{length-common}
 
+-- what is not true is false
 pub not-member : (b : Bool) → not b ≡ true → b ≡ false
 not-member true h = sym h
 not-member false h = refl
 
+-- who is left without x
 member-without : (set : List ℕ) (x n : ℕ) → has_member (without_member set x) n ≡ (not (n == x) && has_member set n)
 member-without set x n = has_member-filter (λ y. not (y == x)) set n
 
@@ -57,14 +59,18 @@ abbrev pub exchanged : List ℕ → ℕ → ℕ → List ℕ
 exchanged committee c x = with_member (without_member committee x) c
 
 module _ (m : ℕ) (committee : List ℕ) (c x : ℕ) (up : IsIncreasing 1 m committee) (here : has_member committee x ≡ true) (out : has_member committee c ≡ false) where
+  -- the candidate is not a member without x either
   less-out : has_member (without_member committee x) c ≡ false
   less-out = member-without committee x c ∙ ap (λ b. not (c == x) && b) out ∙ and-false (not (c == x))
 
+  -- it is a set of candidates
   pub exchanged-up : 1 ≤ c → c ≤ m → IsIncreasing 1 m (exchanged committee c x)
   exchanged-up low high = IsIncreasing-with_member 1 m (without_member committee x) c low high (IsIncreasing-filter (λ y. not (y == x)) 1 m committee up)
 
+  -- it is as large
   pub exchanged-size : length (exchanged committee c x) ≡ length committee
   exchanged-size = omega (arith, length-with_member (without_member committee x) c less-out, length-without_member 1 m committee x up here)
 
+  -- those who approve c have a hit more, and those who approve x one less
   pub hits-exchanged : (ballot : List ℕ) → IsIncreasing 1 m ballot → hits ballot (exchanged committee c x) + bit (has_member ballot x) ≡ hits ballot committee + bit (has_member ballot c)
   hits-exchanged ballot ballot_up = omega (arith, hits-without 1 m ballot committee x ballot_up here, hits-with 1 m ballot (without_member committee x) c ballot_up less-out)

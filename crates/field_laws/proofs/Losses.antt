@@ -55,6 +55,7 @@ sums-first f row rows (x ∷ xs) =
       sums-first f row rows xs,
     )
 
+-- a sum of nothing
 pub sum-none : (xs : List ℕ) → sum_by (λ (x : ℕ). 0) xs ≡ 0
 sum-none [] = refl
 sum-none (x ∷ xs) = omega (arith, sum_by-cons (λ (y : ℕ). 0) x xs, sum-none xs)
@@ -90,6 +91,7 @@ sum-least f n (x ∷ xs) each =
 
 -- ---- what a group gains by a candidate that all its voters approve
 
+-- each of the group gives at least u for a hit more
 gain-least : (w : List ℕ) (u level : ℕ) (committee : List ℕ) (c : ℕ) (rows : List Row) (group : List ℕ) → ((h : ℕ) → h < level → u ≤ weight w (h + 1))
     → IsGroup rows group → list_all (λ ballot. has_member ballot c) (member_ballots rows group) ≡ true → all_below level committee (member_ballots rows group) ≡ true
     → sum group * u ≤ partial Grow w committee c rows
