@@ -1,20 +1,17 @@
 -- Which rules represent groups of voters.
-use Rattle.std.proofs.Common.{◌≡◌, ℕ, zero, suc, ◌+◌, ◌*◌, ◌/◌, ◌<◌, ◌≤◌, ◌==◌, ◌∙◌, Bool, true, false, cond, List, [], ◌∷◌, refl, ap, arith, add-one, inl, inr, length, get_or, sum, Contains}
-use Rattle.std.proofs.lemmas.Grind.{common_steps}
-use Rattle.std.specs.Prelude.{nat_le, nat_lt}
-use Rattle.std.specs.List.{list_all, list_any}
-use Rattle.std.proofs.lemmas.Bool.{and_parts, cases_Bool, cases_eq, cases_lt, eq-eqb, eqb-true, leb-true, ltb-true, ne_eqb}
+use Rattle.std.proofs.Common.{◌≡◌, ℕ, zero, suc, ◌+◌, ◌*◌, ◌/◌, ◌<◌, ◌≤◌, ◌∙◌, cond, List, ap, arith, add-one, inl, inr, length, get_or, sum, Contains}
+use Rattle.std.specs.List.{list_any}
+use Rattle.std.proofs.lemmas.Bool.{cases_lt, leb-true, ne_eqb}
 use Rattle.std.proofs.lemmas.List.{get_or_past}
 use Rattle.std.proofs.lemmas.Nat.{le-div}
 use Rattle.std.proofs.Math.Nat.{mul-le-mul_left}
-use Rattle.std.proofs.lemmas.List.Sums.{sum_by-cons}
 use Rattle.ballot_base.specs.Limits.{most_members}
 use Rattle.ballot_base.specs.Lists.{IsIncreasing}
-use Rattle.ballot_base.specs.CandSet.{has_member, includes}
+use Rattle.ballot_base.specs.CandSet.{has_member}
 use Rattle.ballot_base.specs.CommonMultiple.{common_multiple}
 use Rattle.ballot_base.specs.Increments.{increments}
 use Rattle.ballot_base.specs.declared.increments.ThieleRule.TheVariants.{Cc, Pav}
-use Rattle.ballot_base.specs.Ballots.{Row, Election, IsElection, hits, voter_count}
+use Rattle.ballot_base.specs.Ballots.{Election, IsElection, voter_count}
 use Rattle.ballot_base.proofs.LeastMultiples.{common_multiple_some}
 use Rattle.ballot_base.proofs.WeightLemmas.{increments-length, increments-past, increments-within, quotient-exact}
 use Rattle.tie_walk.specs.Sequences.{weight}
@@ -23,59 +20,14 @@ use Rattle.tie_walk.specs.Winners.{winners}
 use Rattle.tie_walk.proofs.LawLemmas.{winner-is}
 use Rattle.group_check.specs.declared.property.Property.{Property}
 use Rattle.group_check.specs.declared.property.Property.TheVariants.{Jr, Pjr, Ejr, EjrPlus}
-use Rattle.group_check.specs.Groups.{IsGroup, member_ballots, common_candidates, is_cohesive, is_large_enough, is_outside, all_below, HasProperty}
+use Rattle.group_check.specs.Groups.{member_ballots, common_candidates, is_large_enough, is_outside, all_below, HasProperty}
 use Rattle.group_check.proofs.BreakLemmas.{and_middle}
-use Rattle.group_check.proofs.GroupLemmas.{outside_of}
 use Rattle.group_check.proofs.LawLemmas.{ejr-pjr, ejrplus-ejr, pjr-jr}
-use Rattle.group_check.proofs.TestLemmas.{list_all-weaker}
 use Rattle.field_laws.proofs.Exchanges.{not-member}
+use Rattle.field_laws.proofs.LeftOut.{left-out, shared}
 use Rattle.field_laws.proofs.Losses.{no-group}
 
--- ---- a candidate whom all these ballots approve, and who passes a test
-
--- what is known of such a candidate
-pub record IsShared (m : ℕ) (q : ℕ → Bool) (ballots : List (List ℕ)) (c : ℕ) : Type 0 where
-  pub low : 1 ≤ c
-  pub high : c ≤ m
-  pub passes : q c ≡ true
-  pub approved : list_all (λ ballot. has_member ballot c) ballots ≡ true
-
--- there is one if some candidate in common passes
-shared : (m : ℕ) (q : ℕ → Bool) (ballots : List (List ℕ)) → list_any q (common_candidates m ballots) ≡ true → (c : ℕ) × IsShared m q ballots c
-shared m q ballots some =
-    let found = outside_of m q ballots some in
-    let c = found.0 in
-    let all = list_all-weaker (λ ballot. includes ballot (c ∷ [])) (λ ballot. has_member ballot c) (λ ballot h. (and_parts (has_member ballot c) true h).0) ballots found.3 in
-    (c, record { low = found.1.0.0; high = found.1.0.1; passes = found.2; approved = all })
-
--- whoever is there passes if all do
-some-any : (list : List ℕ) → 1 ≤ length list → list_any (λ (c : ℕ). true) list ≡ true
-some-any [] some = absurd (omega arith)
-some-any (c ∷ list) some = refl
-
 -- ---- Chamberlin-Courant
-
--- whoever approves a member has a hit
-hit : (ballot set : List ℕ) (n : ℕ) → has_member ballot n ≡ true → has_member set n ≡ true → 1 ≤ hits ballot set
-hit [] set n here is = absurd cc
-hit (x ∷ ballot) set n here is =
-    grind (arith, common_steps, hit ballot set n, here, is, sum_by-cons, cases_eq x n, eq-eqb x n, ne_eqb x n)
-
--- a candidate shared by a group that approves no member is not a member
-outside : (committee : List ℕ) (c : ℕ) (rows : List Row) (group : List ℕ) → IsGroup rows group → 1 ≤ sum group → list_all (λ ballot. has_member ballot c) (member_ballots rows group) ≡ true
-    → all_below 1 committee (member_ballots rows group) ≡ true → has_member committee c ≡ false
-outside committee c [] [] is some share none = absurd (omega arith)
-outside committee c [] (n ∷ group) is some share none = absurd is
-outside committee c (row ∷ rows) [] is some share none = absurd is
-outside committee c (row ∷ rows) (zero ∷ group) is some share none =
-    outside committee c rows group is.1 (omega (arith, sum_by-cons (λ (x : ℕ). x) 0 group)) share none
-outside committee c (row ∷ rows) (suc n ∷ group) is some share none =
-    let shares = (and_parts (has_member row.0 c) (list_all (λ ballot. has_member ballot c) (member_ballots rows group)) share).0 in
-    let few = ltb-true (hits row.0 committee) 1 (and_parts (nat_lt (hits row.0 committee) 1) (all_below 1 committee (member_ballots rows group)) none).0 in
-    elim (cases_Bool (has_member committee c)) [
-      | inl member ↦ absurd (omega (arith, few, hit row.0 committee c shares member))
-      | inr not_member ↦ not_member
-    ]
 
 -- only the first hit counts
 cc-first : (k : ℕ) → 1 ≤ k → weight (increments Cc k) 1 ≡ 1
@@ -105,23 +57,12 @@ cc-least k some (suc h) low = absurd (omega arith)
 -- A group that breaks justified representation has a shared candidate outside the winner, and no hits.
 pub cc-justified : (e : Election) (k : ℕ) (committee : List ℕ) → IsElection e → 1 ≤ voter_count e.rows → Contains (winners (tally_value (thiele_of e Cc k)) e.m k) committee → HasProperty Jr e committee
 cc-justified e k committee valid voters wins level least most broken =
-    let group = broken.0 in
-    let ballots = member_ballots e.rows group in
-    let parts = and_middle (level == 1) (is_cohesive e (length committee) level group) (all_below 1 committee ballots) broken.2 in
-    let one : level ≡ 1 = eqb-true level 1 parts.0 in
-    let cohesive = and_parts (is_large_enough e (length committee) level group) (nat_le level (length (common_candidates e.m ballots))) parts.1 in
-    let size : length committee ≡ k = (winner-is (tally_value (thiele_of e Cc k)) e.m k committee wins).1 in
-    let large : 1 * voter_count e.rows ≤ sum group * k = omega (arith, leb-true (level * voter_count e.rows) (sum group * length committee) cohesive.0, ap (λ l. l * voter_count e.rows) one, ap (λ l. sum group * l) size) in
-    let some : 1 ≤ k = omega (arith, size) in
-    let found = shared e.m (λ c. true) ballots (some-any (common_candidates e.m ballots) (omega (arith, one, leb-true level (length (common_candidates e.m ballots)) cohesive.1))) in
+    let found = left-out e committee level voters broken in
     let is = found.1 in
-    let out = outside committee found.0 e.rows group broken.1 (member (sum group) large) is.approved parts.2 in
-    no-group e (increments Cc k) 1 1 k 1 committee found.0 group valid.ballots wins (cc-most k some) (cc-least k some) (omega arith) (omega arith) voters out is.low is.high broken.1 is.approved parts.2 large
-  where
-    -- a group of no voters is not large enough
-    member : (g : ℕ) → 1 * voter_count e.rows ≤ g * k → 1 ≤ g
-    member zero large = absurd (omega (arith, large, voters))
-    member (suc g) large = omega arith
+    let size : length committee ≡ k = (winner-is (tally_value (thiele_of e Cc k)) e.m k committee wins).1 in
+    let large : 1 * voter_count e.rows ≤ sum broken.0 * k = omega (arith, is.large, ap (λ l. sum broken.0 * l) size) in
+    let some : 1 ≤ k = omega (arith, size) in
+    no-group e (increments Cc k) 1 1 k 1 committee found.0 broken.0 valid.ballots wins (cc-most k some) (cc-least k some) (omega arith) (omega arith) voters is.outside is.low is.high is.within is.approved is.none large
 
 -- ---- proportional approval voting
 

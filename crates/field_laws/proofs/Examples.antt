@@ -5,7 +5,8 @@ use Rattle.ballot_base.specs.Ballots.{Election, election, voter_count}
 use Rattle.ballot_base.specs.Increments.{increments}
 use Rattle.ballot_base.specs.CommonMultiple.{common_multiple}
 use Rattle.ballot_base.specs.declared.increments.ThieleRule.TheVariants.{Av, Cc, Pav}
-use Rattle.tie_walk.specs.Sequences.{supporters}
+use Rattle.tie_walk.specs.Sequences.{hit_weights, sequential_winners, supporters}
+use Rattle.tie_walk.specs.declared.sequential.SeqRule.TheVariants.{SeqCc}
 use Rattle.tie_walk.specs.Values.{thiele_of, tally_value}
 use Rattle.tie_walk.specs.Winners.{winners}
 use Rattle.group_check.specs.declared.property.Property.TheVariants.{Jr, Pjr}
@@ -19,6 +20,11 @@ alike = election 3 ([] ∷ [] ∷ [] ∷ []) ((1 ∷ 2 ∷ [], 2) ∷ [])
 one_seat_by_cc : winners (tally_value (thiele_of alike Cc 2)) 3 2 ≡ (1 ∷ 2 ∷ []) ∷ (1 ∷ 3 ∷ []) ∷ (2 ∷ 3 ∷ []) ∷ []
 unfolding lists_of increments alike
 one_seat_by_cc = refl
+
+-- nor does sequential Chamberlin-Courant ask for more once all are covered
+one_seat_by_seqcc : sequential_winners SeqCc alike 2 ≡ (1 ∷ 2 ∷ []) ∷ (1 ∷ 3 ∷ []) ∷ (2 ∷ 3 ∷ []) ∷ []
+unfolding lists_of hit_weights alike
+one_seat_by_seqcc = refl
 
 -- they have one member of two
 they_deserve_two : breaks Pjr alike (1 ∷ 3 ∷ []) 2 (2 ∷ []) ≡ true

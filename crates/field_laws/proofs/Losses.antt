@@ -92,7 +92,7 @@ sum-least f n (x ∷ xs) each =
 -- ---- what a group gains by a candidate that all its voters approve
 
 -- each of the group gives at least u for a hit more
-gain-least : (w : List ℕ) (u level : ℕ) (committee : List ℕ) (c : ℕ) (rows : List Row) (group : List ℕ) → ((h : ℕ) → h < level → u ≤ weight w (h + 1))
+pub gain-least : (w : List ℕ) (u level : ℕ) (committee : List ℕ) (c : ℕ) (rows : List Row) (group : List ℕ) → ((h : ℕ) → h < level → u ≤ weight w (h + 1))
     → IsGroup rows group → list_all (λ ballot. has_member ballot c) (member_ballots rows group) ≡ true → all_below level committee (member_ballots rows group) ≡ true
     → sum group * u ≤ partial Grow w committee c rows
 gain-least w u level committee c [] [] each is agree few = omega arith
