@@ -515,12 +515,12 @@ class Types(unittest.TestCase):
         with tempfile.TemporaryDirectory() as room:
             notebook = os.path.join(room, "notebook.py")
             pathlib.Path(notebook).write_text(NOTEBOOK)
-            packages = os.path.join(TOP, "packages")
+            packages, docs = os.path.join(TOP, "packages"), os.path.join(TOP, "docs")
             own = ("committees.py", "committee_answers.py", "committee_pages.py", "committee_pictures.py")
-            others = (os.path.join(TOP, "install"), os.path.join(packages, "make_packages"), notebook)
-            for file in (*own, "draw_committee", "report_election", "table_to_cat", *others):
+            beside = [os.path.join(TOP, name) for name in ("install", "packages/make_packages", "docs/facts")]
+            for file in (*own, "draw_committee", "report_election", "table_to_cat", *beside, notebook):
                 words = [mypy, "--strict", f"--cache-dir={room}", file]
-                environment = {**os.environ, "MYPYPATH": f"{HERE}:{packages}"}
+                environment = {**os.environ, "MYPYPATH": f"{HERE}:{packages}:{docs}"}
                 run = subprocess.run(words, capture_output=True, text=True, cwd=HERE, env=environment)
                 self.assertEqual(run.returncode, 0, run.stdout + run.stderr)
 
