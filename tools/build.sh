@@ -63,8 +63,12 @@ build() {
     JOBS=$(awk -v n="$(nproc)" '/^MemAv/ { m = int($2 / 2e6) } END { print(m < 1 ? 1 : m < n ? m : n) }' /proc/meminfo)
     logic=$(grep -o 'logic [0-9a-f]\{16\}' "$here/README.md" || true)
     case $VERSION in *"$logic") ;; *) say "rt version prints $VERSION, and README.md asks for $logic" ;; esac
-    takes=$(sed -n 's/.*builds the program first: \([0-9]* [a-z]*\).*/\1/p' "$here/README.md")
-    say "proving and building with make -j $JOBS; a first build takes about $takes on four processors"
+    takes=''
+    for crate in $(names_for "$here/$copy" "$1" | sed '$d'); do
+        [ -d "$here/crates/$crate/out/rlib" ] ||
+            takes=$(sed -n 's/.*builds the program first: \([0-9]* [a-z]*\).*/\1/p' "$here/README.md")
+    done
+    say "proving and building with make -j $JOBS${takes:+; a first build takes about $takes on four processors}"
     MAKEFLAGS='' setsid make -s -C "$here" -f "$copy/Makefile" -j "$JOBS" build 3>&2 >"$here/$copy/log" 2>&1 &
     make=$!
     wait "$make" 2>/dev/null || { [ -e "$here/$copy/failed" ] || fail "make: $(cat "$here/$copy/log")"; exit 125; }
@@ -108,7 +112,7 @@ run_in_room() {
     done
     (cd "$room/crates/$crate" && exec "$@") </dev/null >"$room/log" 2>&1 && return
     log=$(mktemp "${TMPDIR:-/tmp}/committees-log.XXXXXX") && cp "$room/log" "$log"
-    { grep -m 5 -e '^note: src/' -e 'error' "$log" || true; tail -n 20 "$log"; } >&3
+    { grep -m 5 -e '^note:' -e 'error' -e 'no proof:' "$log" || true; tail -n 20 "$log"; } >&3
     say "$crate was not proved and built; the whole output is in $log" 2>&3
     touch "$copy/failed"; kill "$PPID"; exit 1
 }
