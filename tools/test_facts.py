@@ -1,7 +1,5 @@
 """Tests of docs/facts: faults that are planted in a copy of the documents, one at a time, are noticed."""
 import contextlib
-import importlib.machinery
-import importlib.util
 import io
 import os
 import pathlib
@@ -11,6 +9,9 @@ import tempfile
 import unittest
 
 TOP = pathlib.Path(os.path.realpath(__file__)).parent.parent
+sys.path[:0] = [str(TOP / "tools"), str(TOP / "docs")]
+from test_tables import module_of  # noqa: E402
+
 PROGRAM = TOP / "crates/committees/out/committees"
 PAGES = ["README.md", "CONTRIBUTING.md", "crates.txt", "packages/make_packages", "packages/debian/control"]
 # A page, what stands there, what is planted in its place, and a part of the complaint.
@@ -21,7 +22,7 @@ README.md | 10,000 seats | 100,000 seats | 10,000 seats
 README.md | glibc 2.34 | glibc 2.17 | README.md has glibc 2.17
 README.md | `geom2`, `geom3` | `geom2`, `geom5` | README.md, --rule, has geom5
 README.md | `saintelague` (Webster) | `saintelague` (Jefferson) | README.md calls saintelague Jefferson
-CONTRIBUTING.md | 224 edits | 225 edits | CONTRIBUTING.md does not say
+CONTRIBUTING.md | crates and | crates and 1 | CONTRIBUTING.md does not say
 crates.txt | group_check: ballot_base | groups_check: ballot_base | docs/ARCHITECTURE.md has group_check
 packages/debian/control | libc6 (>= 2.34) | libc6 (>= 2.31) | packages/debian/control has glibc 2.31
 docs/RULES.md | 1 + 1/2 + .. + 1/x | 1 + 1/3 + .. + 1/x | docs/RULES.md: pav adds
@@ -68,11 +69,7 @@ class Facts(unittest.TestCase):
         for page in [*PAGES, *(str(path.relative_to(TOP)) for path in TOP.glob("docs/*") if path.is_file())]:
             (cls.folder / page).parent.mkdir(parents=True, exist_ok=True)
             shutil.copy(TOP / page, cls.folder / page)
-        sys.path.insert(0, str(TOP / "docs"))
-        cls.addClassCleanup(sys.path.remove, str(TOP / "docs"))
-        loader = importlib.machinery.SourceFileLoader("facts", str(TOP / "docs/facts"))
-        cls.facts = importlib.util.module_from_spec(importlib.util.spec_from_loader("facts", loader))
-        loader.exec_module(cls.facts)
+        cls.facts = module_of("../docs/facts")
 
     def complaints(self):
         with contextlib.redirect_stderr(io.StringIO()) as said, contextlib.redirect_stdout(io.StringIO()) as shown:
