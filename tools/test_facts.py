@@ -47,6 +47,7 @@ docs/MESSAGES.md | GLIBC_2.34 | GLIBC_2.28 | docs/MESSAGES.md has glibc 2.28
 docs/HOSTILE_USE.md | output closed ǀ 6 | output closed ǀ 5 | docs/HOSTILE_USE.md: status 5
 docs/ARCHITECTURE.md | ǀ `tie_walk` ǀ | ǀ `tie_run` ǀ | docs/ARCHITECTURE.md lacks tie_walk
 docs/FAQ.md | More than 64 candidates | More than 60 candidates | docs/FAQ.md does not say
+docs/LIBRARIES.md | winners by `sav` | winners by `sov` | docs/LIBRARIES.md has sov
 docs/FAQ.md | ǀ `minimax` ǀ | ǀ `maximin` ǀ | docs/FAQ.md, comparison, lacks minimax
 docs/committees.bash | words="hamilton dhondt | words="webster hamilton dhondt | --method, has webster
 docs/committees.bash | seqcc revseqpav" | seqcc" | --rule, lacks revseqpav
