@@ -92,6 +92,56 @@ fn a_long_answer(rt: HostRuntime) {
     assert_leaves(&rt, alloc, words, file, answer.as_bytes());
 }
 
+/// Of 18 candidates, voters who all approve 1, and of 2 to 18 those that the binary digits of their number name: no two
+/// ballots are equal.
+fn different_ballots(rt: &impl Abort, alloc: Global, voters: u32) -> String {
+    let mut file = String::from_str(alloc, "# NUMBER ALTERNATIVES: 18\n").expect(rt, "memory");
+    for voter in 0..voters {
+        file.push_str("1: {1").expect(rt, "memory");
+        for digit in 0..17u32 {
+            if voter >> digit & 1 == 1 {
+                write!(file, ",{}", digit + 2).expect(rt, "memory");
+            }
+        }
+        file.push_str("}\n").expect(rt, "memory");
+    }
+    file
+}
+
+/// Rules, a number of those voters, the line of the score of two seats, and the last candidate who wins beside 1 and all after 1.
+static OF_DIFFERENT_BALLOTS: [(&str, u32, &str, u8); 10] = [
+    // Half of the voters approve 2, and also each of the next two or three.
+    ("av", 9_000, "score 13500/1\n", 4),
+    ("pav", 9_000, "score 22500/2\n", 4),
+    ("seqpav", 9_000, "", 4),
+    ("av", 70_000, "score 105000/1\n", 5),
+    ("pav", 70_000, "score 175000/2\n", 5),
+    ("seqpav", 70_000, "", 5),
+    // Everybody approves 1.
+    ("cc", 9_000, "score 9000/1\n", 18),
+    ("cc", 70_000, "score 70000/1\n", 18),
+    // A voter approves 1 and all of 2 to 14 (to 17) but the other member.
+    ("minimax", 9_000, "distance 13\n", 14),
+    ("minimax", 70_000, "distance 16\n", 17),
+];
+
+#[test]
+fn many_different_ballots(rt: HostRuntime) {
+    let alloc = rt.alloc();
+    for (rule, voters, best, last) in &OF_DIFFERENT_BALLOTS {
+        let file = different_ballots(&rt, alloc, *voters);
+        let words = format!(in alloc; "elect --rule {rule} --size 2 --kind cat").expect(
+            &rt, "memory",
+        );
+        let mut answer = format!(in alloc; "rule {rule}\nsize 2\n{best}").expect(&rt, "memory");
+        for other in 2..=*last {
+            writeln!(answer, "1,{other}").expect(&rt, "memory");
+        }
+        answer.push_str("end\n").expect(&rt, "memory");
+        assert_leaves(&rt, alloc, &words, file.as_bytes(), answer.as_bytes());
+    }
+}
+
 /// Of 40 candidates, one voter for each two of 2 to 39, who approves 1 beside them: the lines of the ballots, after a
 /// header, or as a report has them.
 pub(super) fn all_beside_one(rt: &impl Abort, alloc: Global, open: &str, close: &str) -> String {
