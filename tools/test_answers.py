@@ -3,6 +3,7 @@ import contextlib
 import doctest
 import os
 import pathlib
+import subprocess
 import sys
 import tempfile
 import time
@@ -175,6 +176,17 @@ class Refusals(unittest.TestCase):
         self.refused(committees.RequestRefused, 4, "ManyApproved", None, share, BALLOTS, "adams", 2)
         self.refused(committees.DeviceFailed, 6, None, None, elect, "no-such-file.cat", "av", 1)
         self.refused(committees.DeviceFailed, 6, None, None, elect, "--rule", "av", 1)
+
+    def test_words_that_are_not_text(self):
+        for words in (
+            [b"\xff"],
+            ["elect", "--rule", b"\xff", "--size", "1", BOARD],
+            ["check", b"--\xc3"],
+            [BOARD, b"\x80"],
+        ):
+            run = subprocess.run([os.path.join(TOP, "committees"), *words], capture_output=True, input=b"")
+            said = b"error: a word of the command line is not UTF-8 text\n"
+            self.assertEqual((run.returncode, run.stdout, run.stderr), (2, b"", said), words)
 
     def test_a_large_input_that_is_not_read(self):
         self.refused(committees.UsageRefused, 2, None, None, elect, [{1}] * 100000, "borda", 1)
