@@ -15,5 +15,5 @@ bounds_to_the_next-requires c =
     let made = c.new-tally.ensures.tally in
     let m : w.m ≡ t.election.m = c.new-winners.ensures.m ∙ c.m.ensures.value ∙ sym (ap (λ (x : Thiele). x.election.m) made) in
     let k : w.k ≡ t.k = c.new-winners.ensures.k ∙ sym (ap (λ (x : Thiele). x.k) made) in
-    let tight : tight_at t t.election.m t.k = c.new-tally.ensures.tight (ap (λ (x : Thiele). x.rule) made) in
+    let tight : tight_at t t.election.m t.k = c.new-tally.ensures.tight in
     subst (λ x. tight_at x w.m w.k) (sym c.new-winners.ensures.tally) (subst (λ n. tight_at t n w.k) (sym m) (subst (λ n. tight_at t t.election.m n) (sym k) tight))
