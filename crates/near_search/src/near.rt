@@ -26,7 +26,7 @@ use tie_walk::{MinimaxTally, Tally};
 const FEWEST_SEATS: u8 = 4;
 
 /// With fewer candidates to try than this, going through the sets takes less time as well. With 1, elections of 16 to
-/// 20 candidates took 15 to 30 % more instructions; with 4, those of 20 seats among 40 took 44 % more. Any number works.
+/// 20 candidates took 15 to 30 % more instructions; with 4, those of 20 seats among 40 took 44 % more. Any works.
 const FEWEST_CHOICES: u8 = 3;
 
 impl<A: Allocator + Copy> Narrowing for MinimaxSearch<'_, A> {

@@ -17,7 +17,7 @@ use std::alloc::{AllocError, Allocator};
 use std::cell::Cell;
 use std::marker::Model;
 
-/// The maximum of a multiplier that steps have moved. Without it, weights of ballots under minimax grew without end, and
+/// The maximum that a step moves a multiplier to. Without it, weights of ballots under minimax grew without end, and
 /// voters and candidates in a square with outliers took almost three times as long.
 pub const MOST_MOVED: u64 = 1 << 40;
 
@@ -291,7 +291,7 @@ impl<A: Allocator> Multipliers<A> {
         }
     }
 
-    /// Turns the direction of a row to the hits that it wants, if it has this many. Returns the square of the direction,
+    /// Turns the direction of a row with this many hits to those that it wants. Returns the square of the direction,
     /// or 0 if the multiplier is 0 and would fall.
     pub fn aim(&self, row: usize, hits: u8) -> u64 {
         let Some(row) = self.rows.get(row) else {
