@@ -5,7 +5,7 @@ use Rattle.ballot_base.specs.CandSet.{has_member, other_members}
 use Rattle.ballot_base.specs.Lists.{IsIncreasing}
 use Rattle.ballot_base.proofs.Increasing.{IsIncreasing-filter}
 use Rattle.tie_walk.proofs.LawLemmas.{IsIncreasing-range}
-use Rattle.row_bounds.proofs.CompletionLemmas.{member-low, member-high}
+use Rattle.row_multipliers.proofs.CompletionLemmas.{member-low, member-high}
 
 -- they are numbered from 1 to m
 pub beside-candidates : (m : ℕ) (all set others : List ℕ) (n : ℕ)

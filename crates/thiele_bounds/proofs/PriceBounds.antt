@@ -7,8 +7,8 @@ use Rattle.std.proofs.lemmas.Bool.{cases_lt}
 use Rattle.std.proofs.lemmas.Grind.{div_ceil_times}
 use Rattle.std.proofs.lemmas.List.Filters.{sum_by-filter_both}
 use Rattle.ballot_base.specs.CandSet.{common_members, has_member}
-use Rattle.row_bounds.specs.Completions.{IsNode, IsCompletion}
-use Rattle.row_bounds.proofs.CompletionLemmas.{completion-inside, completion-outside, member-high, member-low}
+use Rattle.row_multipliers.specs.Completions.{IsNode, IsCompletion}
+use Rattle.row_multipliers.proofs.CompletionLemmas.{completion-inside, completion-outside, member-high, member-low}
 use Rattle.tie_walk.proofs.LawLemmas.{IsIncreasing-range}
 use Rattle.tie_walk.proofs.StepLemmas.{has_member-range}
 

@@ -5,7 +5,7 @@ ghost use Rattle.ballot_base.specs.Ballots.{Row, hits};
 ghost use Rattle.ballot_base.specs.Lists.{IsIncreasing};
 ghost use Rattle.ballot_base.specs.CandSet.{common_members, has_member};
 ghost use Rattle.tie_walk.specs.Values.{thiele_value};
-ghost use Rattle.row_bounds.specs.Completions.{IsNode, IsCompletion};
+ghost use Rattle.row_multipliers.specs.Completions.{IsNode, IsCompletion};
 ghost use Rattle.thiele_bounds.specs.Pairs.{IsMajorant, all_kept, all_overlap, all_worth, pair_sum, row_sum};
 ghost use Rattle.thiele_bounds.specs.Prices.{IsKept};
 

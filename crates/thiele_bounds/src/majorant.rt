@@ -11,7 +11,7 @@ ghost use Rattle.thiele_bounds.specs.Steps.Units.{most_given, most_given_to_pair
 ghost use Rattle.thiele_bounds.specs.Steps.Majorants.{AreMajorants, Majorized};
 
 use ballot_base::{Increments, PLACES, ThieleRule};
-use row_bounds::multipliers::Wanted;
+use row_multipliers::multipliers::Wanted;
 use std::marker::Model;
 
 /// The first hit gives about this many units in sums for majorants: enough that rounding matters little.

@@ -8,7 +8,7 @@ ghost use Rattle.std.specs.Prelude.{◌≡◌, ℕ, ◌+◌, ◌-◌, ◌*◌, �
 ghost use Rattle.ballot_base.specs.CandSet.{has_member};
 ghost use Rattle.ballot_base.specs.Limits.{most_candidates, most_voters, worth_limit};
 ghost use Rattle.ballot_base.specs.Lists.{IsIncreasing};
-ghost use Rattle.row_bounds.specs.Completions.{IsNode};
+ghost use Rattle.row_multipliers.specs.Completions.{IsNode};
 ghost use Rattle.thiele_bounds.specs.Steps.Paired.{AreNothing, IsSmallMajorant, overlap_at, pair_place, triangle};
 ghost use Rattle.thiele_bounds.specs.Steps.Rows.{AreBeside, AreRows, IsSum};
 ghost use Rattle.thiele_bounds.specs.Steps.Totals.{AreSmall, BoundNode, NarrowsUnder};
@@ -16,7 +16,7 @@ ghost use Rattle.thiele_bounds.specs.Steps.Units.{most_given_to_pairs};
 
 use crate::majorant::{HitSums, Majorant, Majorants};
 use ballot_base::{CandSet, MOST_CANDIDATES, Profile, Worths};
-use row_bounds::Node;
+use row_multipliers::Node;
 use std::alloc::Allocator;
 
 /// The number of places in a table of pairs: 65 * 66 / 2.

@@ -6,14 +6,14 @@
 //! set is worth more than what all keep and the prices of the candidates that join (`laws::prices`; Fisher, The
 //! Lagrangian relaxation method for solving integer programming problems, 1981).
 //!
-//! The multipliers are moved (`row_bounds::multipliers`). With prices of the whole election only, five parties with
+//! The multipliers are moved (`row_multipliers::multipliers`). With prices of the whole election only, five parties with
 //! noise, 64 candidates and 10 seats took 8 s and not 0.8 s under `pav`.
 ghost use Rattle.std.specs.Prelude.{◌≡◌, ℕ, ◌+◌, ◌*◌, ◌≤◌, List, [], slice_index, MatchOption, ⊤};
 ghost use Rattle.ballot_base.specs.Limits.{most_candidates, most_members};
 ghost use Rattle.ballot_base.specs.Increments.{increments};
 ghost use Rattle.tie_walk.specs.Values.{Thiele, tally_value};
-ghost use Rattle.row_bounds.specs.Completions.{IsNode};
-ghost use Rattle.row_bounds.specs.Steps.Narrowed.{Narrows};
+ghost use Rattle.row_multipliers.specs.Completions.{IsNode};
+ghost use Rattle.row_multipliers.specs.Steps.Narrowed.{Narrows};
 ghost use Rattle.thiele_bounds.specs.Steps.Paired.{AreSums};
 ghost use Rattle.thiele_bounds.specs.Steps.Units.{most_given, most_priced};
 ghost use Rattle.thiele_bounds.specs.Steps.Priced.{ArePrices};
@@ -21,8 +21,8 @@ ghost use Rattle.thiele_bounds.specs.Steps.Totals.{BoundNode};
 
 use crate::majorant::HitSums;
 use ballot_base::{CandSet, Worths};
-use row_bounds::Node;
-use row_bounds::multipliers::{self, Constraint, Effort, Gap, Multipliers, RowBound};
+use row_multipliers::Node;
+use row_multipliers::multipliers::{self, Constraint, Effort, Gap, Multipliers, RowBound};
 use std::alloc::Allocator;
 use tie_walk::{Tally, ThieleTally};
 

@@ -19,9 +19,9 @@ use Rattle.ballot_base.proofs.Increasing.{IsIncreasing-higher}
 use Rattle.std.specs.List.{AllByRecursion}
 use Rattle.tie_walk.specs.Sequences.{gain, weight, supporters}
 use Rattle.tie_walk.specs.Values.{Thiele}
-use Rattle.row_bounds.proofs.HitLemmas.{hits-turned}
-use Rattle.row_bounds.proofs.MemberLemmas.{first-gone, first-in, others-same}
-use Rattle.row_bounds.proofs.SearchLemmas.{rest-increasing}
+use Rattle.row_multipliers.proofs.HitLemmas.{hits-turned}
+use Rattle.row_multipliers.proofs.MemberLemmas.{first-gone, first-in, others-same}
+use Rattle.row_multipliers.proofs.SearchLemmas.{rest-increasing}
 use Rattle.thiele_search.specs.Steps.Columns.{block_voters, total, shared, voter_ballot, given, approves_some, word_before, IsBlock, AreByHits, AreColumns, AreColumnsOf, AreRising, voters_of}
 
 -- ---- sums over the first numbers

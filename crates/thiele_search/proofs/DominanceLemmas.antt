@@ -18,7 +18,7 @@ use Rattle.tie_walk.specs.Sequences.{gain, supporters, weight}
 use Rattle.tie_walk.specs.Values.{Thiele, tally_value}
 use Rattle.tie_walk.proofs.TightLemmas.{hits-most}
 use Rattle.tie_search.proofs.CloneLemmas.{back, exchanged, gone, less, less-out, less-up}
-use Rattle.row_bounds.proofs.CompletionLemmas.{without-shorter}
+use Rattle.row_multipliers.proofs.CompletionLemmas.{without-shorter}
 use Rattle.thiele_search.proofs.WholeLemmas.{value-with}
 use Rattle.thiele_search.specs.Steps.Dominance.{EachHitAdds, is_follower}
 

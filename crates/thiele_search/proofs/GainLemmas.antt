@@ -16,10 +16,10 @@ use Rattle.tie_walk.specs.Values.{Thiele, tally_value}
 use Rattle.tie_walk.proofs.Gains.{thiele-gain, thiele-most}
 use Rattle.tie_walk.proofs.TableLemmas.{increments_sum-most, sum-take-le}
 use Rattle.tie_walk.proofs.Submodular.{gains-bound, thiele_rule-submodular}
-use Rattle.row_bounds.specs.Completions.{IsCompletion, IsNode, IsOutOfReach}
-use Rattle.row_bounds.specs.Steps.Narrowed.{IsNarrowed}
-use Rattle.row_bounds.proofs.NarrowedLemmas.{narrowed-members}
-use Rattle.row_bounds.proofs.CompletionLemmas.{added, added-free, completion-members}
+use Rattle.row_multipliers.specs.Completions.{IsCompletion, IsNode, IsOutOfReach}
+use Rattle.row_multipliers.specs.Steps.Narrowed.{IsNarrowed}
+use Rattle.row_multipliers.proofs.NarrowedLemmas.{narrowed-members}
+use Rattle.row_multipliers.proofs.CompletionLemmas.{added, added-free, completion-members}
 use Rattle.thiele_search.specs.Steps.Aided.{IsValued}
 use Rattle.thiele_bounds.proofs.PairBounds.PairLemmas.{sum-less}
 use Rattle.thiele_search.proofs.WholeLemmas.{thiele-same, value-with}

@@ -12,8 +12,8 @@ use Rattle.tie_walk.specs.Values.{Thiele, tally_value, thiele_value}
 use Rattle.tie_walk.proofs.Gains.{thiele-gain}
 use Rattle.tie_walk.proofs.Submodular.{hits-more}
 use Rattle.tie_walk.proofs.TableLemmas.{sum-take_more}
-use Rattle.row_bounds.specs.Completions.{IsOutOfReach}
-use Rattle.row_bounds.proofs.CompletionLemmas.{hits-same}
+use Rattle.row_multipliers.specs.Completions.{IsOutOfReach}
+use Rattle.row_multipliers.proofs.CompletionLemmas.{hits-same}
 
 -- values see only the members
 pub thiele-same : (w : List ℕ) (rows : List Row) (xs ys : List ℕ) → ((n : ℕ) → has_member xs n ≡ has_member ys n) → thiele_value w rows xs ≡ thiele_value w rows ys

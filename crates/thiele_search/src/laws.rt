@@ -6,7 +6,7 @@ ghost use Rattle.ballot_base.specs.Increments.{increments};
 ghost use Rattle.ballot_base.specs.CandSet.{common_members};
 ghost use Rattle.tie_walk.specs.Ceilings.{gain_at};
 ghost use Rattle.tie_walk.specs.Values.{thiele_value};
-ghost use Rattle.row_bounds.specs.Completions.{IsNode, IsCompletion};
+ghost use Rattle.row_multipliers.specs.Completions.{IsNode, IsCompletion};
 
 use ballot_base::ThieleRule;
 

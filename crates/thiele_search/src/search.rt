@@ -6,18 +6,18 @@
 //!
 //! If enough seats are left, a bound by pairs of candidates comes before the gains as well (`thiele_bounds::pairs`). It
 //! counts a voter who approves two members less than twice. Then come prices of the node itself, whose multipliers are
-//! moved (`row_bounds::multipliers`). Pairs shorten elections whose ballots were drawn independently, and prices those
+//! moved (`row_multipliers::multipliers`). Pairs shorten elections whose ballots were drawn independently, and prices those
 //! whose ballots have structure. A search begins without both, since a short one ends sooner without them. Each is left
-//! out again if it does not pay (module `trials`, `row_bounds::moves`).
+//! out again if it does not pay (module `trials`, `row_multipliers::moves`).
 ghost use Rattle.std.specs.Prelude.{◌≡◌, ℕ, ◌≤◌, true, false, IsTrue, slice_index};
 ghost use Rattle.ballot_base.specs.CandSet.{has_member};
 ghost use Rattle.ballot_base.specs.Lists.{IsIncreasing};
 ghost use Rattle.ballot_base.specs.Increments.{increments};
 ghost use Rattle.tie_walk.specs.Ceilings.{gain_at};
 ghost use Rattle.tie_walk.specs.Sequences.{gain};
-ghost use Rattle.row_bounds.specs.Steps.Narrowed.{Narrows};
+ghost use Rattle.row_multipliers.specs.Steps.Narrowed.{Narrows};
 ghost use Rattle.thiele_search.specs.Steps.Aided.{IsAided, IsValued};
-ghost use Rattle.row_bounds.specs.Completions.{IsNode, IsOutOfReach};
+ghost use Rattle.row_multipliers.specs.Completions.{IsNode, IsOutOfReach};
 ghost use Rattle.tie_walk.specs.Values.{tally_value};
 
 use crate::columns::Columns;
@@ -25,8 +25,8 @@ use crate::dominance::Dominance;
 use crate::thiele::ThieleSearch;
 use crate::trials::{FEW_SEATS, Uses};
 use ballot_base::{CandSet, Clones, ThieleRule, Worths};
-use row_bounds::Node;
-use row_bounds::multipliers::{self, Effort};
+use row_multipliers::Node;
+use row_multipliers::multipliers::{self, Effort};
 use std::alloc::Allocator;
 use thiele_bounds::{AGAIN, HitSums, NODE, PriceSearch, Priced, pairs};
 use tie_search::descent::{Narrowing, Plan};

@@ -18,7 +18,7 @@ use Rattle.tie_search.specs.Steps.Branches.{IsBranch, completes}
 use Rattle.tie_search.specs.declared.branch.Branch.{Branch}
 use Rattle.tie_search.proofs.BranchLemmas.{branch-node}
 use Rattle.tie_search.proofs.CloneLemmas.{hits-exchanged}
-use Rattle.row_bounds.proofs.HitLemmas.{hits-append, hits-more}
+use Rattle.row_multipliers.proofs.HitLemmas.{hits-append, hits-more}
 
 -- they leave the number of members of each class as it is
 pub becomes-hits : (m : ℕ) (class : ℕ → List ℕ) (goal committee : List ℕ) (e : ℕ) → AreClasses m class → 1 ≤ e → e ≤ m → IsIncreasing 1 m (class e) → Becomes m class goal committee

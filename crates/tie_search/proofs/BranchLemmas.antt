@@ -12,12 +12,12 @@ use Rattle.ballot_base.proofs.Increasing.{IsIncreasing-either, IsIncreasing-filt
 use Rattle.tie_walk.specs.Winners.{best_value}
 use Rattle.tie_walk.proofs.LawLemmas.{no_greater_value}
 use Rattle.tie_search.specs.Alike.{AreAlike}
-use Rattle.row_bounds.specs.Completions.{IsCompletion, IsNode, IsOutOfReach, IsReaching}
+use Rattle.row_multipliers.specs.Completions.{IsCompletion, IsNode, IsOutOfReach, IsReaching}
 use Rattle.tie_search.specs.Tied.{IsBest}
 use Rattle.tie_search.specs.Steps.Branches.{IsAnswer, IsBarren, IsBranch, IsWinnerOf, completes}
 use Rattle.tie_search.specs.declared.branch.Branch.{Branch}
 use Rattle.tie_search.proofs.CloneLemmas.{clones-left, minus-is}
-use Rattle.row_bounds.proofs.CompletionLemmas.{added, added-free, added-size, completion-back, completion-few, completion-members, completion-self, completion-whole, completion-with, completion-without, member-high, member-low, or-more}
+use Rattle.row_multipliers.proofs.CompletionLemmas.{added, added-free, added-size, completion-back, completion-few, completion-members, completion-self, completion-whole, completion-with, completion-without, member-high, member-low, or-more}
 use Rattle.tie_search.proofs.ReachLemmas.{increasing-append}
 
 -- the branch after a candidate has joined its set

@@ -13,8 +13,8 @@ use Rattle.ballot_base.proofs.Increasing.{IsIncreasing-filter, IsIncreasing-with
 use Rattle.ballot_base.proofs.Passed.{filter-member}
 use Rattle.tie_walk.proofs.Gains.{bit, hits-with}
 use Rattle.tie_search.specs.Alike.{AreAlike, HasClasses}
-use Rattle.row_bounds.specs.Completions.{IsCompletion, IsNode, IsOutOfReach}
-use Rattle.row_bounds.proofs.CompletionLemmas.{completion-with, filter-most, member-high, member-low, member-without}
+use Rattle.row_multipliers.specs.Completions.{IsCompletion, IsNode, IsOutOfReach}
+use Rattle.row_multipliers.proofs.CompletionLemmas.{completion-with, filter-most, member-high, member-low, member-without}
 
 -- ---- a member in the place of another
 

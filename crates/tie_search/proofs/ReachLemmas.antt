@@ -9,8 +9,8 @@ use Rattle.ballot_base.proofs.Increasing.{IsIncreasing-lower}
 use Rattle.tie_walk.specs.Ceilings.{IsBound}
 use Rattle.tie_walk.specs.Winners.{best_value}
 use Rattle.tie_walk.proofs.LawLemmas.{no_greater_value, some_winner, winner-is}
-use Rattle.row_bounds.specs.Completions.{IsCompletion}
-use Rattle.row_bounds.proofs.CompletionLemmas.{member-low, member-high}
+use Rattle.row_multipliers.specs.Completions.{IsCompletion}
+use Rattle.row_multipliers.proofs.CompletionLemmas.{member-low, member-high}
 
 -- ---- tests of lists
 

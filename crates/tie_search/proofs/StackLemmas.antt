@@ -22,7 +22,7 @@ use Rattle.tie_search.specs.Tied.{IsBest}
 use Rattle.tie_search.specs.Steps.Branches.{AreStacked, IsBarren, IsBranch, IsStep, IsWinnerOf, completes, entries, left_by, to_enter, winners_of}
 use Rattle.tie_search.specs.declared.branch.Branch.{Branch}
 use Rattle.tie_search.proofs.BranchLemmas.{joined, passed, split-same, whole-is, with-begins, without-begins}
-use Rattle.row_bounds.proofs.CompletionLemmas.{member-high, member-low}
+use Rattle.row_multipliers.proofs.CompletionLemmas.{member-high, member-low}
 
 -- ---- what tests keep of lists in order
 

@@ -16,7 +16,7 @@ use Rattle.tie_search.specs.Steps.Branches.{AreStacked, IsBegun, IsBranch, IsCou
 use Rattle.tie_search.specs.declared.asking.Asking.{Asking}
 use Rattle.tie_search.specs.declared.branch.Branch.{Branch}
 use Rattle.tie_search.proofs.BranchLemmas.{added-later, goes-on, grown-is, joined, passed, whole-is, with-begins, with-branch, without-begins, without-branch}
-use Rattle.row_bounds.proofs.CompletionLemmas.{member-low}
+use Rattle.row_multipliers.proofs.CompletionLemmas.{member-low}
 use Rattle.tie_search.proofs.EnteredLemmas.{beginnings-most, longer-all, longer-apart, longer-less}
 use Rattle.tie_search.proofs.StackLemmas.{all-kept, all-winners, greater-later, joined-winners, none-kept, not-later, wins-from}
 

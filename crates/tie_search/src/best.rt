@@ -18,7 +18,7 @@ use crate::branch::Branch;
 use crate::found::{MOST_TIED, Tied};
 use crate::searchable::Searchable;
 use ballot_base::CandSet;
-use row_bounds::Node;
+use row_multipliers::Node;
 
 /// What is searched, and what is known of the committees of `k` with the highest value: that value and some of them.
 #[derive(Drop)]

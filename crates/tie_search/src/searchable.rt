@@ -2,13 +2,13 @@
 ghost use Rattle.std.specs.Prelude.{◌≡◌, ℕ, ◌≤◌, List, MatchOption, ⊤, length};
 ghost use Rattle.ballot_base.specs.Limits.{most_candidates};
 ghost use Rattle.ballot_base.specs.Lists.{IsIncreasing};
-ghost use Rattle.row_bounds.specs.Completions.{Finds, IsNode};
+ghost use Rattle.row_multipliers.specs.Completions.{Finds, IsNode};
 ghost use Rattle.tie_search.specs.Alike.{AreAlike, AreClasses, HasClasses};
 ghost use Rattle.tie_search.specs.Tied.{AreTied};
 
 use crate::found::Tied;
 use ballot_base::{CandSet, Clones};
-use row_bounds::Node;
+use row_multipliers::Node;
 use tie_walk::Tally;
 
 /// Values of committees, and which candidates are clones.

@@ -1,4 +1,4 @@
-//! Minimax approval voting in its plain form. `near_search` uses its `value` and `bound`; only tests walk over it.
+//! Minimax approval voting in its plain form. `minimax_search` uses its `value` and `bound`; only tests walk over it.
 //!
 //! The bound of a prefix comes from the distances on the candidates decided so far, which only grow.
 ghost use Rattle.std.specs.Prelude.{◌≡◌};

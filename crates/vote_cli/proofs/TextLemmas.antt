@@ -12,7 +12,7 @@ use Rattle.request_words.specs.declared.request.ScoredRule.{ScoredRule}
 use Rattle.ballot_base.specs.Increments.{increments}
 use Rattle.ballot_base.specs.declared.increments.ThieleRule.{ThieleRule}
 use Rattle.request_words.specs.declared.request.ScoredRule.TheVariants.{Minimax, Satisfaction, Thiele}
-use Rattle.tie_families.specs.Families.{Sequential as Families, sequential_of}
+use Rattle.sequential_winners.specs.Families.{Sequential as Families, sequential_of}
 use Rattle.tie_walk.specs.Sequences.{sequential_winners}
 use Rattle.tie_walk.specs.declared.sequential.SeqRule.{SeqRule}
 use Rattle.tie_walk.specs.Values.{Thiele as Tally, closeness, satisfaction_value, thiele_of, thiele_value}

@@ -18,9 +18,9 @@ use crate::starts::committee_start;
 use ballot_base::{CandSet, Profile, common_multiple};
 use itoa::Buffer;
 use request_words::{Page, Rule, ScoredRule};
+use sequential_winners::FamilyWinners;
 use std::alloc::Allocator;
 use text_output::{Names, Printer, Sink, WriteFailed, write_pieces};
-use tie_families::FamilyWinners;
 use tie_search::{SearchWinners, Searchable};
 use tie_walk::{Tally, Winners};
 

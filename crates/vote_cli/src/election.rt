@@ -14,12 +14,12 @@ use crate::answers::Outcome;
 use crate::elect_text::Listing;
 use crate::refusal::Refusal;
 use ballot_base::ThieleRule;
-use near_search::MinimaxSearch;
+use minimax_search::MinimaxSearch;
 use request_words::{Rule, ScoredRule};
+use sequential_winners::{Families, FamilyWinners};
 use std::alloc::{AllocError, Allocator};
 use text_output::{Sink, WriteFailed};
 use thiele_search::{SearchMemory, ThieleSearch};
-use tie_families::{Families, FamilyWinners};
 use tie_walk::{ApprovalTally, SavTally, SeqRule};
 
 /// Writes an election and its listed winners.

@@ -8,11 +8,11 @@ ghost use Rattle.vote_cli.specs.Listing.{allocation_line, answers_text, committe
 
 use ballot_base::CandSet;
 use seat_share::{Allocation, Shares};
+use sequential_winners::FamilyWinners;
 use std::alloc::Allocator;
 use text_output::{
     Names, Printer, Sink, WriteFailed, print_beside_seats, print_candidates, print_seats,
 };
-use tie_families::FamilyWinners;
 use tie_search::{SearchWinners, Searchable};
 use tie_walk::{Tally, Winners};
 

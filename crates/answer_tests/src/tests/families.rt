@@ -2,14 +2,14 @@
 ghost use Rattle.std.specs.Prelude.{◌≡◌, ◌≤◌};
 ghost use Rattle.ballot_base.specs.Limits.{most_candidates};
 ghost use Rattle.ballot_base.specs.Lists.{IsIncreasing};
-ghost use Rattle.tie_families.specs.Families.{sequential_of};
+ghost use Rattle.sequential_winners.specs.Families.{sequential_of};
 ghost use Rattle.tie_walk.specs.Winners.{IsStart};
 
 use super::support::{ballot_of, election_of, next_word};
 use ballot_base::{CandSet, KSets, MOST_CANDIDATES, Profile};
+use sequential_winners::{Families, FamilyWinners};
 use std::alloc::Global;
 use std::process::Abort;
-use tie_families::{Families, FamilyWinners};
 use tie_walk::{SeqRule, SeqWinners};
 
 /// The families of committees of k under a rule.

@@ -1,6 +1,6 @@
 //! Multipliers of rows, which a search keeps from node to node.
 use super::support::assert_of;
-use row_bounds::multipliers::Multipliers;
+use row_multipliers::multipliers::Multipliers;
 
 /// The multiplier of each row.
 const FIRST: u64 = 1000;

@@ -6,8 +6,8 @@ ghost use Rattle.tie_walk.specs.Values.{thiele_of};
 ghost use Rattle.tie_walk.specs.Winners.{IsStart};
 
 use ballot_base::{CandSet, Clones, KSets, Profile, ProfileBuilder, ThieleRule};
-use near_search::MinimaxSearch;
-use row_bounds::Node;
+use minimax_search::MinimaxSearch;
+use row_multipliers::Node;
 use std::alloc::Global;
 use std::cell::Cell;
 use std::process::Abort;

@@ -7,7 +7,7 @@ use Rattle.ballot_base.specs.Limits.{most_candidates}
 use Rattle.ballot_base.specs.Lists.{IsIncreasing}
 use Rattle.ballot_base.specs.CandSet.{has_member, members_upto}
 use Rattle.ballot_base.proofs.Increasing.{has_member-filter}
-use Rattle.row_bounds.proofs.MemberLemmas.{first-gone, first-in, first-low, others-same}
+use Rattle.row_multipliers.proofs.MemberLemmas.{first-gone, first-in, first-low, others-same}
 use Rattle.thiele_bounds.specs.Steps.Paired.{overlap_at, pair_place, triangle}
 
 -- who is in the row or among the members gets so much

@@ -10,11 +10,11 @@ use Rattle.ballot_base.specs.Ballots.{Row, hits}
 use Rattle.ballot_base.proofs.Increasing.{IsIncreasing-filter, has_member-below, has_member_head}
 use Rattle.tie_walk.specs.Sequences.{supporters}
 use Rattle.tie_walk.specs.Values.{thiele_value}
-use Rattle.row_bounds.specs.Completions.{IsNode, IsCompletion}
+use Rattle.row_multipliers.specs.Completions.{IsNode, IsCompletion}
 use Rattle.thiele_bounds.specs.Pairs.{IsMajorant, all_kept, all_worth, all_overlap, pair_sum, worth_beside, row_sum}
-use Rattle.row_bounds.proofs.CompletionLemmas.{added, added-free, added-increasing, added-size, completion-members, hits-same, member-without}
-use Rattle.row_bounds.proofs.HitLemmas.{hits-append, hits-more, hits-turned}
-use Rattle.row_bounds.proofs.SearchLemmas.{sum-among, sum-threshold}
+use Rattle.row_multipliers.proofs.CompletionLemmas.{added, added-free, added-increasing, added-size, completion-members, hits-same, member-without}
+use Rattle.row_multipliers.proofs.HitLemmas.{hits-append, hits-more, hits-turned}
+use Rattle.row_multipliers.proofs.SearchLemmas.{sum-among, sum-threshold}
 
 or-true : (p q : Bool) → q ≡ true → (p || q) ≡ true
 or-true true q h = refl

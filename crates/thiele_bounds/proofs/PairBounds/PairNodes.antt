@@ -7,10 +7,10 @@ use Rattle.ballot_base.specs.CandSet.{has_member, common_members}
 use Rattle.ballot_base.specs.Limits.{most_candidates}
 use Rattle.ballot_base.specs.Ballots.{Row}
 use Rattle.tie_walk.specs.Values.{thiele_value}
-use Rattle.row_bounds.specs.Completions.{IsNode, IsCompletion}
+use Rattle.row_multipliers.specs.Completions.{IsNode, IsCompletion}
 use Rattle.thiele_bounds.specs.Pairs.{pair_sum, row_sum}
 use Rattle.thiele_bounds.specs.Steps.Paired.{AreTotals, IsRowSum, overlap_at}
-use Rattle.row_bounds.proofs.CompletionLemmas.{added-free, added-increasing, added-size, member-high}
+use Rattle.row_multipliers.proofs.CompletionLemmas.{added-free, added-increasing, added-size, member-high}
 use Rattle.thiele_bounds.proofs.PairBounds.PairLemmas.{rows-bound}
 
 -- a value that is reached in units is reached by the bound

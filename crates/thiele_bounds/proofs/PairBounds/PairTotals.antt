@@ -11,10 +11,10 @@ use Rattle.ballot_base.specs.Ballots.{Row, Election, IsElection, hits, voter_cou
 use Rattle.ballot_base.proofs.Committees.{length-increasing}
 use Rattle.tie_walk.proofs.Distances.{ballot-found}
 use Rattle.tie_walk.specs.Values.{thiele_value}
-use Rattle.row_bounds.specs.Completions.{IsNode}
+use Rattle.row_multipliers.specs.Completions.{IsNode}
 use Rattle.thiele_bounds.specs.Pairs.{IsMajorant}
 use Rattle.thiele_bounds.specs.Steps.Paired.{AreNothing, AreSums, AreTotals, overlap_at}
-use Rattle.row_bounds.proofs.HitLemmas.{hits-append, free-common}
+use Rattle.row_multipliers.proofs.HitLemmas.{hits-append, free-common}
 use Rattle.thiele_bounds.proofs.PairBounds.OverlapLemmas.{portion}
 use Rattle.thiele_bounds.proofs.PairBounds.PairLemmas.{row-bound}
 

@@ -4,7 +4,7 @@ use Rattle.ballot_base.specs.Limits.{most_candidates}
 use Rattle.ballot_base.specs.Ballots.{Row}
 use Rattle.ballot_base.specs.CandSet.{common_members}
 use Rattle.tie_walk.specs.Values.{thiele_value}
-use Rattle.row_bounds.specs.Completions.{IsCompletion}
+use Rattle.row_multipliers.specs.Completions.{IsCompletion}
 use Rattle.thiele_bounds.specs.Pairs.{pair_sum, row_sum}
 use Rattle.thiele_bounds.specs.declared.majorant.Majorant.{Majorant}
 

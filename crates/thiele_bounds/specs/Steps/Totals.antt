@@ -3,8 +3,8 @@ use Rattle.std.specs.Prelude.{ℕ, ◌≤◌, ◌^◌, List, Option, slice_index
 use Rattle.ballot_base.specs.Ballots.{Election}
 use Rattle.ballot_base.specs.Limits.{most_candidates}
 use Rattle.tie_walk.specs.Values.{thiele_value}
-use Rattle.row_bounds.specs.Steps.Narrowed.{Narrows}
-use Rattle.row_bounds.specs.declared.node.Node.{Node}
+use Rattle.row_multipliers.specs.Steps.Narrowed.{Narrows}
+use Rattle.row_multipliers.specs.declared.node.Node.{Node}
 use Rattle.thiele_bounds.specs.Steps.Paired.{AreSums, AreTotals, overlap_at}
 use Rattle.thiele_bounds.specs.declared.majorant.HitSums.{HitSums}
 use Rattle.thiele_bounds.specs.declared.pairs.Totals.{Totals}

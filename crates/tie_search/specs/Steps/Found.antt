@@ -1,7 +1,7 @@
 -- Steps of a search that lists committees.
 use Rattle.std.specs.Prelude.{◌≡◌, ℕ, ◌+◌, ◌⊎◌, ◌<◌, ◌≤◌, List}
 use Rattle.tie_search.specs.Alike.{Becomes}
-use Rattle.row_bounds.specs.Completions.{IsCompletion}
+use Rattle.row_multipliers.specs.Completions.{IsCompletion}
 use Rattle.tie_search.specs.Tied.{AreDistinct, IsAmong, most_tied}
 use Rattle.tie_search.specs.declared.found.Found.{Found}
 use Rattle.tie_search.specs.declared.found.Wanted.TheVariants.{All}

@@ -8,11 +8,11 @@ use Rattle.ballot_base.proofs.Turns.{row_of_turn, all_passed}
 use Rattle.tie_walk.proofs.RowSums.{length-common}
 use Rattle.thiele_bounds.specs.Steps.Majorants.{Majorized}
 use Rattle.thiele_bounds.specs.Steps.Paired.{AreTotals, IsMajorantOf, overlap_at}
-use Rattle.row_bounds.proofs.CompletionLemmas.{member-high}
+use Rattle.row_multipliers.proofs.CompletionLemmas.{member-high}
 use Rattle.thiele_bounds.proofs.PairBounds.OverlapLemmas.{portion}
 use Rattle.thiele_bounds.proofs.PairBounds.PairTotals.{cells-same, hits-both, portion-most, portion-self, row-up, totals-more, totals-none, voters-more, voters-room}
-use Rattle.row_bounds.proofs.HitLemmas.{free-common}
-use Rattle.row_bounds.proofs.SearchLemmas.{part-most}
+use Rattle.row_multipliers.proofs.HitLemmas.{free-common}
+use Rattle.row_multipliers.proofs.SearchLemmas.{part-most}
 use Rattle.thiele_bounds.proofs.pairs.add_ballots.Goals as goal
 
 pub loop-ballot-init : goal.loop-ballot-init

@@ -3,10 +3,10 @@ use Rattle.std.proofs.lemmas.Bool.{leb-true}
 use Rattle.ballot_base.specs.CandSet.{has_member}
 use Rattle.ballot_base.specs.Limits.{most_candidates}
 use Rattle.ballot_base.proofs.Increasing.{has_member-filter}
-use Rattle.row_bounds.proofs.CompletionLemmas.{and-true}
+use Rattle.row_multipliers.proofs.CompletionLemmas.{and-true}
 use Rattle.thiele_bounds.proofs.PairBounds.OverlapLemmas.{portion, portion-pair, rows-fit, rows-more}
-use Rattle.row_bounds.proofs.MemberLemmas.{first-low}
-use Rattle.row_bounds.proofs.SearchLemmas.{rest-increasing}
+use Rattle.row_multipliers.proofs.MemberLemmas.{first-low}
+use Rattle.row_multipliers.proofs.SearchLemmas.{rest-increasing}
 use Rattle.thiele_bounds.proofs.pairs.add_pairs.Goals as goal
 
 pub loop-row-init : goal.loop-row-init

@@ -3,8 +3,8 @@ use Rattle.std.proofs.Math.ListN.{length-set}
 use Rattle.ballot_base.specs.CandSet.{has_member}
 use Rattle.ballot_base.specs.Limits.{most_candidates}
 use Rattle.thiele_bounds.proofs.PairBounds.OverlapLemmas.{portion, portion-none, place-within, row-fits, row-more}
-use Rattle.row_bounds.proofs.MemberLemmas.{first-in, later-in}
-use Rattle.row_bounds.proofs.SearchLemmas.{rest-increasing}
+use Rattle.row_multipliers.proofs.MemberLemmas.{first-in, later-in}
+use Rattle.row_multipliers.proofs.SearchLemmas.{rest-increasing}
 use Rattle.thiele_bounds.proofs.pairs.add_to_row.Goals as goal
 use Rattle.thiele_bounds.proofs.pairs.add_to_row.Goals.{In-Some}
 

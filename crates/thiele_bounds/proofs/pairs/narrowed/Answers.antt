@@ -3,8 +3,8 @@ use Rattle.std.proofs.Math.Nat.{mul-le-mul, mul-le-mul_left}
 use Rattle.ballot_base.specs.Limits.{most_candidates}
 use Rattle.thiele_bounds.specs.Steps.Paired.{overlap_at, pair_place}
 use Rattle.tie_walk.specs.Values.{thiele_value}
-use Rattle.row_bounds.proofs.CompletionLemmas.{completion-few}
-use Rattle.row_bounds.proofs.NarrowedLemmas.{narrowed-members}
+use Rattle.row_multipliers.proofs.CompletionLemmas.{completion-few}
+use Rattle.row_multipliers.proofs.NarrowedLemmas.{narrowed-members}
 use Rattle.tie_walk.proofs.WorthLemmas.{no_total}
 use Rattle.thiele_bounds.proofs.PairBounds.PairNodes.{pairs-pay}
 use Rattle.thiele_bounds.proofs.pairs.narrowed.Goals as goal

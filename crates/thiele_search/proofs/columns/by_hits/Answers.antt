@@ -8,7 +8,7 @@ use Rattle.ballot_base.specs.CandSet.{has_member}
 use Rattle.tie_walk.proofs.Gains.{hits-none}
 use Rattle.tie_walk.proofs.WorthLemmas.{no_total}
 use Rattle.thiele_search.proofs.ColumnLemmas.{hits-first, hit-moves}
-use Rattle.row_bounds.proofs.SearchLemmas.{rest-increasing}
+use Rattle.row_multipliers.proofs.SearchLemmas.{rest-increasing}
 use Rattle.thiele_search.proofs.columns.by_hits.Goals as goal
 
 others : (j : ℕ) → 1 ≤ j → get_or ((2 ^ 64 - 1) ∷ replicate 64 0) j 0 ≡ 0

@@ -7,7 +7,7 @@ use Rattle.ballot_base.specs.Ballots.{hits}
 use Rattle.ballot_base.specs.CandSet.{has_member}
 use Rattle.tie_walk.proofs.Gains.{hits-none}
 use Rattle.thiele_search.proofs.ColumnLemmas.{hits-first, cover-grows}
-use Rattle.row_bounds.proofs.SearchLemmas.{rest-increasing}
+use Rattle.row_multipliers.proofs.SearchLemmas.{rest-increasing}
 use Rattle.thiele_search.proofs.columns.covered_by.Goals as goal
 
 pub bounds-block-from : goal.bounds-block-from

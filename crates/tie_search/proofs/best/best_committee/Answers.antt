@@ -6,7 +6,7 @@ use Rattle.ballot_base.specs.Lists.{IsIncreasing}
 use Rattle.tie_walk.specs.Ceilings.{IsBound}
 use Rattle.tie_walk.proofs.LawLemmas.{IsIncreasing-range}
 use Rattle.tie_walk.proofs.StepLemmas.{has_member-range}
-use Rattle.row_bounds.specs.Completions.{IsNode, IsOutOfReach, IsReaching}
+use Rattle.row_multipliers.specs.Completions.{IsNode, IsOutOfReach, IsReaching}
 use Rattle.tie_search.proofs.ReachLemmas.{best-found, completes-none}
 use Rattle.tie_search.proofs.best.best_committee.Given.{Over}
 use Rattle.tie_search.proofs.best.best_committee.Goals as goal

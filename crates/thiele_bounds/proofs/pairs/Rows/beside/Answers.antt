@@ -4,9 +4,9 @@ use Rattle.ballot_base.specs.CandSet.{has_member}
 use Rattle.ballot_base.specs.Limits.{most_candidates}
 use Rattle.thiele_bounds.specs.Pairs.{worth_beside}
 use Rattle.thiele_bounds.specs.Steps.Paired.{overlap_at}
-use Rattle.row_bounds.proofs.MemberLemmas.{first-low}
+use Rattle.row_multipliers.proofs.MemberLemmas.{first-low}
 use Rattle.thiele_bounds.proofs.PairBounds.OverlapLemmas.{one-made, one-most, pair-within}
-use Rattle.row_bounds.proofs.SearchLemmas.{rest-increasing}
+use Rattle.row_multipliers.proofs.SearchLemmas.{rest-increasing}
 use Rattle.thiele_bounds.proofs.pairs.Rows.beside.Goals as goal
 use Rattle.thiele_bounds.proofs.pairs.Rows.beside.Goals.{After-from-overlap}
 

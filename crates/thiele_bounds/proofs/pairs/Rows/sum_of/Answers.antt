@@ -7,9 +7,9 @@ use Rattle.ballot_base.specs.Lists.{IsIncreasing}
 use Rattle.ballot_base.proofs.Committees.{length-increasing}
 use Rattle.thiele_bounds.specs.Pairs.{worth_beside}
 use Rattle.thiele_bounds.specs.Steps.Paired.{overlap_at}
-use Rattle.row_bounds.proofs.CompletionLemmas.{filter-most, member-high, without-is}
+use Rattle.row_multipliers.proofs.CompletionLemmas.{filter-most, member-high, without-is}
 use Rattle.thiele_bounds.proofs.PairBounds.PairLemmas.{sum-equal}
-use Rattle.row_bounds.proofs.SearchLemmas.{sum-most}
+use Rattle.row_multipliers.proofs.SearchLemmas.{sum-most}
 use Rattle.thiele_bounds.proofs.pairs.Rows.sum_of.Goals as goal
 use Rattle.thiele_bounds.proofs.pairs.Rows.sum_of.Goals.{After-excess}
 

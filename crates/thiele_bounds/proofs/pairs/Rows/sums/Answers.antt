@@ -2,9 +2,9 @@ use Rattle.std.proofs.Common.{◌≡◌, ◌∙◌, true, false, sym, ap}
 use Rattle.ballot_base.specs.CandSet.{has_member}
 use Rattle.ballot_base.specs.Limits.{most_candidates}
 use Rattle.thiele_bounds.specs.Steps.Paired.{IsRowSum}
-use Rattle.row_bounds.proofs.MemberLemmas.{first-in, first-low, later-in}
+use Rattle.row_multipliers.proofs.MemberLemmas.{first-in, first-low, later-in}
 use Rattle.thiele_bounds.proofs.PairBounds.OverlapLemmas.{one-made}
-use Rattle.row_bounds.proofs.SearchLemmas.{rest-increasing}
+use Rattle.row_multipliers.proofs.SearchLemmas.{rest-increasing}
 use Rattle.thiele_bounds.proofs.pairs.Rows.sums.Goals as goal
 
 pub loop-i-init : goal.loop-i-init

@@ -5,8 +5,8 @@ use Rattle.ballot_base.specs.Ballots.{Row, hits}
 use Rattle.tie_walk.proofs.RowSums.{length-common}
 use Rattle.thiele_bounds.specs.Steps.Paired.{AreTotals}
 use Rattle.thiele_bounds.proofs.PairBounds.PairTotals.{hits-both, portion-most, row-up, totals-more, totals-none, voters-more}
-use Rattle.row_bounds.proofs.HitLemmas.{free-common}
-use Rattle.row_bounds.proofs.SearchLemmas.{part-most}
+use Rattle.row_multipliers.proofs.HitLemmas.{free-common}
+use Rattle.row_multipliers.proofs.SearchLemmas.{part-most}
 use Rattle.thiele_bounds.proofs.prices.PriceSearch.prices.Goals as goal
 use Rattle.thiele_bounds.proofs.prices.PriceSearch.prices.Goals.{After-min-most}
 

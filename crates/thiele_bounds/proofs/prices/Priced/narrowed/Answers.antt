@@ -2,7 +2,7 @@ use Rattle.std.proofs.Common.{◌≡◌, ℕ, ◌+◌, ◌-◌, ◌*◌, ◌≤�
 use Rattle.std.proofs.Math.Nat.{mul-le-mul_left}
 use Rattle.ballot_base.specs.CandSet.{common_members}
 use Rattle.tie_walk.specs.Values.{tally_value}
-use Rattle.row_bounds.proofs.NarrowedLemmas.{narrowed-members}
+use Rattle.row_multipliers.proofs.NarrowedLemmas.{narrowed-members}
 use Rattle.thiele_bounds.proofs.PairBounds.PairLemmas.{sum-less}
 use Rattle.thiele_bounds.proofs.PriceBounds.{all-completed, all-members}
 use Rattle.thiele_bounds.proofs.prices.Priced.narrowed.Goals as goal

@@ -2,8 +2,8 @@ use Rattle.std.proofs.Common.{[], refl, subst, arith}
 use Rattle.ballot_base.specs.Increments.{increments}
 use Rattle.ballot_base.specs.Lists.{IsIncreasing}
 use Rattle.tie_walk.proofs.LawLemmas.{IsIncreasing-range}
-use Rattle.row_bounds.specs.Completions.{IsNode}
-use Rattle.row_bounds.proofs.CompletionLemmas.{candidates-among}
+use Rattle.row_multipliers.specs.Completions.{IsNode}
+use Rattle.row_multipliers.proofs.CompletionLemmas.{candidates-among}
 use Rattle.thiele_bounds.specs.Steps.Paired.{AreSums}
 use Rattle.thiele_bounds.proofs.prices.Priced.of.Goals as goal
 use Rattle.thiele_bounds.proofs.prices.Priced.of.Goals.{After-empty}

@@ -5,7 +5,7 @@ use Rattle.ballot_base.specs.Ballots.{hits}
 use Rattle.tie_walk.proofs.TightLemmas.{hits-most}
 use Rattle.thiele_search.specs.Steps.Columns.{block_voters, total, shared, given}
 use Rattle.thiele_search.proofs.ColumnLemmas.{given_below, given-sum, given-whole, one-added, one-most}
-use Rattle.row_bounds.proofs.SearchLemmas.{rest-increasing}
+use Rattle.row_multipliers.proofs.SearchLemmas.{rest-increasing}
 use Rattle.thiele_search.proofs.columns.Columns.add_block.Goals as goal
 
 pub loop-candidate-preserved : goal.loop-candidate-preserved

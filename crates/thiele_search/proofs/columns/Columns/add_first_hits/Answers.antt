@@ -4,7 +4,7 @@ use Rattle.ballot_base.specs.Limits.{most_candidates, most_members}
 use Rattle.ballot_base.specs.CandSet.{has_member}
 use Rattle.thiele_search.specs.Steps.Columns.{block_voters, total, shared, given}
 use Rattle.thiele_search.proofs.ColumnLemmas.{given-first, one-added, one-most, ones-common, shares-few}
-use Rattle.row_bounds.proofs.SearchLemmas.{rest-increasing}
+use Rattle.row_multipliers.proofs.SearchLemmas.{rest-increasing}
 use Rattle.thiele_search.proofs.columns.Columns.add_first_hits.Goals as goal
 
 pub loop-candidate-preserved : goal.loop-candidate-preserved

@@ -4,12 +4,12 @@ use Rattle.ballot_base.specs.CandSet.{has_member, with_member, without_member}
 use Rattle.ballot_base.specs.Increments.{increments}
 use Rattle.tie_walk.specs.Ceilings.{gain_at}
 use Rattle.tie_walk.proofs.Submodular.{thiele_rule-submodular}
-use Rattle.row_bounds.specs.Completions.{IsNode, IsOutOfReach}
+use Rattle.row_multipliers.specs.Completions.{IsNode, IsOutOfReach}
 use Rattle.tie_walk.specs.Values.{tally_value}
-use Rattle.row_bounds.specs.Steps.Narrowed.{IsNarrowed}
-use Rattle.row_bounds.proofs.CompletionLemmas.{member-high, member-low, node-with, without-is}
+use Rattle.row_multipliers.specs.Steps.Narrowed.{IsNarrowed}
+use Rattle.row_multipliers.proofs.CompletionLemmas.{member-high, member-low, node-with, without-is}
 use Rattle.thiele_search.proofs.WholeLemmas.{thiele-same}
-use Rattle.row_bounds.proofs.NarrowedLemmas.{narrowed-empty}
+use Rattle.row_multipliers.proofs.NarrowedLemmas.{narrowed-empty}
 use Rattle.thiele_search.proofs.GainLemmas.{gain-falls, gain-same, valued-more, valued-small}
 use Rattle.thiele_search.specs.Steps.Aided.{IsValued}
 use Rattle.thiele_search.proofs.search.ThieleSearchNarrowing.child.Goals as goal

@@ -7,7 +7,7 @@ use Rattle.ballot_base.specs.Clones.{are_clones, clones_among}
 use Rattle.ballot_base.specs.Ballots.{Row}
 use Rattle.ballot_base.proofs.Increasing.{has_member-filter}
 use Rattle.tie_walk.proofs.StepLemmas.{has_member-range}
-use Rattle.row_bounds.proofs.CompletionLemmas.{member-high, member-low}
+use Rattle.row_multipliers.proofs.CompletionLemmas.{member-high, member-low}
 use Rattle.thiele_search.specs.Steps.Dominance.{IsDominance}
 use Rattle.thiele_search.proofs.DominanceLemmas.{value-rises}
 use Rattle.thiele_search.proofs.search.ThieleSearchNarrowing.dominated.Goals as goal

@@ -1,7 +1,7 @@
 use Rattle.std.proofs.Common.{refl}
 use Rattle.tie_walk.specs.Values.{tally_value}
-use Rattle.row_bounds.specs.Steps.Narrowed.{IsNarrowed, Narrows}
-use Rattle.row_bounds.proofs.NarrowedLemmas.{narrowed-more, narrowed-out}
+use Rattle.row_multipliers.specs.Steps.Narrowed.{IsNarrowed, Narrows}
+use Rattle.row_multipliers.proofs.NarrowedLemmas.{narrowed-more, narrowed-out}
 use Rattle.tie_search.proofs.DescentLemmas.{choice-of_all, narrowed-choice}
 use Rattle.thiele_search.proofs.GainLemmas.{gain-same, gains-narrow}
 use Rattle.thiele_search.proofs.search.ThieleSearchNarrowing.plan.Goals as goal

@@ -2,9 +2,9 @@ use Rattle.std.proofs.Common.{◌≡◌, ◌<◌, ◌∙◌, ℕ, Bool, true, fa
 use Rattle.std.specs.Prelude.{MatchOption}
 use Rattle.std.specs.Bool.{then_some}
 use Rattle.tie_walk.specs.Values.{tally_value}
-use Rattle.row_bounds.specs.Completions.{IsOutOfReach}
-use Rattle.row_bounds.specs.Steps.Narrowed.{IsNarrowed}
-use Rattle.row_bounds.proofs.NarrowedLemmas.{narrowed-none}
+use Rattle.row_multipliers.specs.Completions.{IsOutOfReach}
+use Rattle.row_multipliers.specs.Steps.Narrowed.{IsNarrowed}
+use Rattle.row_multipliers.proofs.NarrowedLemmas.{narrowed-none}
 use Rattle.ballot_base.specs.CandSet.{has_member}
 use Rattle.ballot_base.specs.Increments.{increments}
 use Rattle.ballot_base.proofs.Increasing.{IsIncreasing-either, has_member-either}

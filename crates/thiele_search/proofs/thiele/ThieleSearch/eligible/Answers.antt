@@ -1,9 +1,9 @@
 use Rattle.std.proofs.Common.{ℕ, List, Option, None, Some}
 use Rattle.std.specs.Prelude.{MatchOption}
-use Rattle.row_bounds.specs.Completions.{IsOutOfReach}
+use Rattle.row_multipliers.specs.Completions.{IsOutOfReach}
 use Rattle.tie_walk.specs.Values.{tally_value}
-use Rattle.row_bounds.specs.Steps.Narrowed.{IsNarrowed}
-use Rattle.row_bounds.proofs.NarrowedLemmas.{narrowed-more, narrowed-out}
+use Rattle.row_multipliers.specs.Steps.Narrowed.{IsNarrowed}
+use Rattle.row_multipliers.proofs.NarrowedLemmas.{narrowed-more, narrowed-out}
 use Rattle.thiele_search.proofs.thiele.ThieleSearch.eligible.Goals as goal
 
 -- narrowed further

@@ -1,6 +1,6 @@
 use Rattle.ballot_base.specs.Limits.{most_candidates}
 use Rattle.ballot_base.proofs.Passed.{rest-up}
-use Rattle.row_bounds.proofs.CompletionLemmas.{candidates-among}
+use Rattle.row_multipliers.proofs.CompletionLemmas.{candidates-among}
 use Rattle.thiele_search.proofs.thiele.ThieleSearch.exchanged.Goals as goal
 
 pub loop-pass-init : goal.loop-pass-init

@@ -4,7 +4,7 @@ use Rattle.std.specs.Bool.{then_some}
 use Rattle.std.proofs.lemmas.Bool.{eqb-true}
 use Rattle.ballot_base.specs.Lists.{IsIncreasing}
 use Rattle.tie_walk.specs.Values.{Thiele}
-use Rattle.row_bounds.proofs.CompletionLemmas.{candidates-among}
+use Rattle.row_multipliers.proofs.CompletionLemmas.{candidates-among}
 use Rattle.thiele_search.proofs.thiele.ThieleSearchSearchable.good_committee.Goals as goal
 
 -- what is given is there under the condition

@@ -11,7 +11,7 @@ use Rattle.tie_walk.proofs.RowSums.{length-common}
 use Rattle.tie_search.proofs.AlikeLemmas.{becomes-hits, completes-least, completes-most}
 use Rattle.tie_search.proofs.BranchLemmas.{branch-node}
 use Rattle.tie_search.proofs.CloneLemmas.{minus-is}
-use Rattle.row_bounds.proofs.CompletionLemmas.{member-high, member-low}
+use Rattle.row_multipliers.proofs.CompletionLemmas.{member-high, member-low}
 use Rattle.tie_search.proofs.branch.Branch.suits.Goals as goal
 use Rattle.tie_search.proofs.branch.Branch.suits.Goals.{then-seats-taken-via-then-seats-taken, then-seats-taken-via-else-seats-taken+then-seats-taken-2}
 

@@ -1,0 +1,16 @@
+//! A search for winners under minimax approval voting: the committees with the smallest maximum distance to a ballot.
+//!
+//! `MinimaxSearch` finds a committee that is near each ballot, if there is one. `needs` computes the hits that a ballot
+//! needs for that. `search` narrows the sets of `tie_search::descent`, by `weights` of ballots that are moved if that
+//! pays. `good` finds a committee to begin with.
+//! `tie_search::SearchWinners` asks for one winner after another.
+#![tactic(auto)]
+
+mod good;
+pub mod laws;
+pub mod minimax;
+mod needs;
+mod search;
+mod weights;
+
+pub use minimax::MinimaxSearch;

@@ -1,0 +1,133 @@
+//! Bounds on committees that are near each ballot (minimax), for a search from set to set.
+//!
+//! A ballot is no farther than a distance from a committee of `k` exactly if it has enough hits: half of the excess of
+//! its size and `k` together over the distance, rounded up (`laws::needs`). A set is given up if a ballot needs more
+//! hits than there are seats left, or than it has free candidates. If a ballot needs a hit from each seat left, all
+//! candidates that are not on it leave. One of the free candidates on the ballot that can spare the fewest must join.
+//!
+//! If several seats are left and several candidates are to be tried, all needs are also added up, each with a weight
+//! (module `weights`).
+ghost use Rattle.std.specs.Prelude.{◌≤◌, ⊤};
+ghost use Rattle.row_multipliers.specs.Completions.{IsNode};
+ghost use Rattle.minimax_search.specs.Steps.Search.{Branches, IsNearPlan};
+
+use crate::minimax::MinimaxSearch;
+use crate::needs::still_needed;
+use crate::weights::{NeedSearch, Weighing};
+use ballot_base::CandSet;
+use row_multipliers::Node;
+use row_multipliers::multipliers::RowBound;
+use std::alloc::Allocator;
+use tie_search::descent::{Narrowing, Plan};
+use tie_walk::{MinimaxTally, Tally};
+
+/// With fewer seats left than this, going through the sets takes less time than weighing needs, although weights rule
+/// out a third of the sets and more. Any number is right.
+const FEWEST_SEATS: u8 = 4;
+
+/// With fewer candidates to try than this, going through the sets takes less time as well. With 1, elections of 16 to
+/// 20 candidates took 15 to 30 % more instructions; with 4, those of 20 seats among 40 took 44 % more. Any works.
+const FEWEST_CHOICES: u8 = 3;
+
+impl<A: Allocator + Copy> Narrowing for MinimaxSearch<'_, A> {
+    // A whole committee is valued when it is reached.
+    ghost is_valued = { λ election set value. ⊤ };
+
+    ghost is_plan = { λ election set left plan. IsNearPlan election set left plan };
+
+    fn whole_value(&self, node: &Node) -> u128 {
+        MinimaxTally::new(self.profile).value(node.set)
+    }
+
+    fn plan(&self, node: &Node, least: u128) -> Option<Plan> {
+        let m = self.m();
+        if least > u128::from(m) {
+            return None;
+        }
+        let most = m - least as u8;
+        let (choices, free) = self.choices(node, most)?;
+        let search = NeedSearch {
+            profile: self.profile,
+            weighing: self.weighing(node.left, choices),
+            most,
+        };
+        let free = search.moved(&Node { free, ..*node }, &self.moves)?;
+        let here = Node { free, ..*node };
+        let needs = search.constraint(&here);
+        Some(Plan {
+            eligible: needs.narrowed(&here)?,
+            choices,
+            worths: needs.worths,
+            due: needs.due.saturating_sub(needs.paid),
+            least,
+        })
+    }
+
+    fn narrowed(&self, plan: &Plan, node: &Node, least: u128) -> Option<CandSet> {
+        if least > u128::from(self.m()) {
+            return None;
+        }
+        plan.worths.members_for(node.free, node.left, plan.due)
+    }
+
+    fn child(&self, _plan: &Plan, node: &Node, next: u8) -> Node {
+        Node {
+            set: node.set.with(next),
+            value: 0,
+            free: node.free.without(next),
+            left: node.left - 1,
+        }
+    }
+}
+
+impl<A: Allocator + Copy> MinimaxSearch<'_, A> {
+    /// Two sets: branching candidates, at least one of which must join so that no ballot is farther than `most`; and
+    /// the candidates that are still eligible. Returns `None` if some ballot needs more hits than it can have.
+    fn choices(&self, node: &Node, most: u8) -> Option<(CandSet, CandSet)>
+        requires is_node { IsNode self.now.m node.now.set node.now.free }
+        requires some { 1 ≤ node.now.left }
+        ensures { Branches self.now most node.now result }
+    {
+        if node.free.len() < node.left {
+            return None;
+        }
+        let mut choices = node.free;
+        let mut rest = node.free;
+        let mut fewest = u8::MAX;
+        let mut most_needed = 0;
+        for (ballot, _voters) in self.profile.ballots() {
+            let needed = still_needed(ballot, node, most);
+            if needed == 0 {
+                continue;
+            }
+            let open = ballot.common(rest);
+            if needed > node.left.min(open.len()) {
+                return None;
+            }
+            if needed == node.left {
+                rest = open;
+            }
+            let spare = open.len() - needed;
+            // Any ballot that needs a hit is right. A tight one leaves few candidates to try.
+            if spare < fewest || spare == fewest && needed > most_needed {
+                choices = open;
+                fewest = spare;
+                most_needed = needed;
+            }
+        }
+        Some((choices, rest))
+    }
+
+    /// Enters a node with `left` seats left, and chooses weights. The `choices` are to be tried.
+    fn weighing(&self, left: u8, choices: CandSet) -> Weighing<'_, A> {
+        self.moves.enter(left);
+        if left < FEWEST_SEATS || choices.len() < FEWEST_CHOICES {
+            return Weighing::Nothing;
+        }
+        if self.moves.are_due(left) {
+            Weighing::Moved(&self.weights)
+        } else {
+            Weighing::ByShare(&self.shares)
+        }
+    }
+}

@@ -1,0 +1,165 @@
+-- The families that choices make, level by level.
+use Rattle.std.specs.Prelude.{◌≡◌, ℕ, nat_lt, nat_le, fold, Option, None, Some, ◌+◌, ◌-◌, ◌<◌, ◌≤◌, ◌⊎◌, Contains, true, ◌&&◌, ◌==◌, Bool, false, not, List, [], ◌∷◌, length, map, filter, slice_index_or, if◌then◌else◌}
+use Rattle.std.specs.List.{list_all, list_any, flat_map, range_with_len, zip, AllByRecursion}
+use Rattle.std.specs.List.Sorted.{IsStrictlySortedBy}
+use Rattle.std.specs.Cmp.Lexicographic.{slice_cmp}
+use Rattle.std.specs.Ordering.{nat_cmp}
+use Rattle.ballot_base.specs.Lists.{IsIncreasing}
+use Rattle.ballot_base.specs.CandSet.{has_member}
+use Rattle.ballot_base.specs.Ballots.{Row, Election, hits}
+use Rattle.tie_walk.specs.Sequences.{hit_weights, weight, gain, others, is_sequential_winner}
+use Rattle.tie_walk.specs.Steps.Choices.{step_of, may_choose, change, worth, better, worst, open_candidates, is_choice, start, IsReached, IsInOrder}
+use Rattle.tie_walk.specs.declared.sequential.SeqRule.{SeqRule}
+use Rattle.tie_walk.specs.declared.sequential.Step.{Step}
+use Rattle.tie_walk.specs.declared.sequential.Step.TheVariants.{Grow, Shrink}
+use Rattle.ballot_base.specs.Clones.{clones_among}
+use Rattle.sequential_winners.specs.Clones.{clone_count, has_as_many, is_between}
+
+-- whether no candidate below c who is in the set of clones may be chosen
+abbrev pub is_first_open : Step → List ℕ → List ℕ → ℕ → Bool
+is_first_open step clones set c =
+    list_all (λ d. not (has_member clones d && may_choose step set d)) (range_with_len 1 (c - 1))
+
+-- whether the set grows, and no candidate adds anything to it
+abbrev pub is_settled : Step → List ℕ → ℕ → List Row → List ℕ → Bool
+is_settled Grow weights m rows set = list_all (λ c. gain weights rows set c == 0) (others m set)
+is_settled Shrink weights m rows set = false
+
+-- like `is_settled`, given the best worth
+abbrev pub has_settled : Step → ℕ → Bool
+has_settled Grow best = best == 0
+has_settled Shrink best = false
+
+-- the candidates who are chosen next: of clones who tie, only the first
+abbrev pub ties : Step → List ℕ → ℕ → List Row → List ℕ → List ℕ
+ties step weights m rows set =
+    filter (λ c. is_choice step weights m rows set c && is_first_open step (clones_among m rows c) set c)
+    (range_with_len 1 m)
+
+-- whether no voter approves two of the candidates
+abbrev pub shares_no_voter : List Row → List ℕ → Bool
+shares_no_voter rows candidates = list_all (λ (row : Row). nat_le (hits row.0 candidates) 1) rows
+
+-- what the candidates who are chosen next bring, or take away
+abbrev pub tied_worth : Step → List ℕ → ℕ → List Row → List ℕ → ℕ
+tied_worth step weights m rows set =
+    fold (better step) (worst step) (map (worth step weights rows set) (open_candidates step m set))
+
+-- whether two or more candidates tie who bring something, and no voter approves two of them
+abbrev pub is_independent : Step → List ℕ → ℕ → List Row → List ℕ → Bool
+is_independent step weights m rows set =
+    nat_lt 0 (tied_worth step weights m rows set)
+    && (nat_le 2 (length (ties step weights m rows set)) && shares_no_voter rows (ties step weights m rows set))
+
+-- if the choices from the set may be made in any order, the set that all of them lead to
+unfoldable pub end : Step → List ℕ → ℕ → List Row → List ℕ → Option (List ℕ)
+end step weights m rows set =
+    if is_settled step weights m rows set
+    then Some (range_with_len 1 m)
+    else if is_independent step weights m rows set
+    then Some (fold (change step) set (ties step weights m rows set))
+    else None
+
+-- the candidates whom the choices that lead to a set have added, or taken out
+abbrev pub picked : Step → ℕ → List ℕ → List ℕ
+picked Grow m set = set
+picked Shrink m set = others m set
+
+-- how many choices lead to a set
+abbrev pub chosen : Step → ℕ → List ℕ → ℕ
+chosen step m set = length (picked step m set)
+
+-- what the level after level `size` has of a set: the set itself, or its end once it is reached, or the sets that one
+-- choice makes
+abbrev pub followed : Step → ℕ → ℕ → List ℕ → List ℕ → Option (List ℕ) → List (List ℕ)
+followed step m size set tied None = map (change step set) tied
+followed step m size set tied (Some last) = (if nat_le (chosen step m last) (size + 1) then last else set) ∷ []
+
+-- what follows a set of level `size`
+unfoldable pub family_changes : Step → List ℕ → ℕ → List Row → ℕ → List ℕ → List (List ℕ)
+family_changes step weights m rows size set =
+    followed step m size set (ties step weights m rows set) (end step weights m rows set)
+
+-- the end, or the set itself if there is none
+abbrev pub end_or : List ℕ → Option (List ℕ) → List ℕ
+end_or set None = set
+end_or set (Some last) = last
+
+-- the other end of a family of the committees of k: its set if that has k members, and otherwise its end
+abbrev pub other_end : Step → List ℕ → ℕ → List Row → ℕ → List ℕ → List ℕ
+other_end step weights m rows k set = if length set == k then set else end_or set (end step weights m rows set)
+
+-- the list has exactly the families that follow those of another, in lexicographic order, each once
+abbrev pub IsNextFamilies : Step → List ℕ → ℕ → List Row → ℕ → List (List ℕ) → List (List ℕ) → Type 0
+IsNextFamilies step weights m rows size level next =
+    IsInOrder (flat_map (family_changes step weights m rows size) level) next
+
+-- at most as many of each class of clones
+abbrev pub IsBelow : List Row → List ℕ → List ℕ → Type 0
+IsBelow rows set other = (c : ℕ) → clone_count rows set c ≤ clone_count rows other c
+
+-- as many of each class as choices may make of the set
+abbrev pub IsAhead : Step → ℕ → List Row → List ℕ → List ℕ → Type 0
+IsAhead step m rows set other = IsBelow rows (picked step m set) (picked step m other)
+
+-- after a hit that brings something, the next one brings less, and after another one it brings nothing
+abbrev pub IsFalling : List ℕ → Type 0
+IsFalling weights = (j : ℕ) → 1 ≤ j → weight weights (j + 1) ≤ weight weights j - 1
+
+module _ (step : Step) (weights : List ℕ) (m : ℕ) (rows : List Row) where
+  -- some list of this many choices makes the set
+  abbrev pub IsReachedBy : ℕ → List ℕ → Type 0
+  IsReachedBy size set = IsReached (is_choice step weights m rows) (change step) (start step m) size set
+
+  -- the set has an end that more than `size` choices lead to
+  abbrev pub IsLasting : ℕ → List ℕ → Type 0
+  IsLasting size set = (last : List ℕ) × (end step weights m rows set ≡ Some last) × (size < chosen step m last)
+
+  -- to a family of a level led `size` choices; or fewer did, and it lasts
+  abbrev pub IsPlaced : ℕ → List ℕ → Type 0
+  IsPlaced size set = (chosen step m set ≡ size) ⊎ ((chosen step m set < size) × IsLasting size set)
+
+  -- between the set and its end, by numbers of each class
+  pub record IsOf (set made : List ℕ) : Type 0 where
+    pub ahead : IsAhead step m rows set made
+    pub until : (last : List ℕ) → end step weights m rows set ≡ Some last → IsAhead step m rows made last
+
+  -- the sets that `size` choices make are those of their size between some family and its end
+  pub record IsFamilyLevel (size : ℕ) (sets : List (List ℕ)) : Type 0 where
+    pub order : IsStrictlySortedBy (slice_cmp nat_cmp) sets
+    pub candidates : (set : List ℕ) → Contains sets set → IsIncreasing 1 m set
+    pub placed : (set : List ℕ) → Contains sets set → IsPlaced size set
+    pub reached : (made : List ℕ) → IsReachedBy size made → (set : List ℕ) × Contains sets set × IsOf set made
+    pub made : (made set : List ℕ) → IsIncreasing 1 m made → chosen step m made ≡ size → Contains sets set
+        → IsOf set made → IsReachedBy size made
+
+-- Families, each as the least and the most members that its committees have of each class. Those of k are the
+-- committees that some sequence of choices makes. If each has a least set of k members, these are in order.
+pub record AreFamilies (rule : SeqRule) (e : Election) (k : ℕ) (leasts mosts : List (List ℕ)) : Type 0 where
+  pub paired : length mosts ≡ length leasts
+  pub least_sets : AllByRecursion (λ set. IsIncreasing 1 e.m set) leasts
+  pub most_sets : AllByRecursion (λ set. IsIncreasing 1 e.m set) mosts
+  pub spans : (i : ℕ) → i < length leasts
+      → has_as_many e.m e.rows (slice_index_or mosts i []) (slice_index_or leasts i []) ≡ true
+  pub order : list_all (λ set. length set == k) leasts ≡ true → IsStrictlySortedBy (slice_cmp nat_cmp) leasts
+  pub reached : (committee : List ℕ) → IsIncreasing 1 e.m committee → length committee ≡ k
+      → is_sequential_winner rule e k committee
+      ≡ list_any (λ family. is_between e.m e.rows family.0 family.1 committee) (zip leasts mosts)
+
+-- ---- the same of a rule at an election
+
+abbrev pub ties_by : SeqRule → Election → List ℕ → List ℕ
+ties_by rule e set = ties (step_of rule) (hit_weights rule e.m) e.m e.rows set
+
+abbrev pub end_by : SeqRule → Election → List ℕ → Option (List ℕ)
+end_by rule e set = end (step_of rule) (hit_weights rule e.m) e.m e.rows set
+
+abbrev pub other_end_by : SeqRule → Election → ℕ → List ℕ → List ℕ
+other_end_by rule e k set = other_end (step_of rule) (hit_weights rule e.m) e.m e.rows k set
+
+-- `IsNextFamilies`, and `IsFamilyLevel`
+abbrev pub AreFollowing : SeqRule → Election → ℕ → List (List ℕ) → List (List ℕ) → Type 0
+AreFollowing rule e size level next = IsNextFamilies (step_of rule) (hit_weights rule e.m) e.m e.rows size level next
+
+abbrev pub AreReached : SeqRule → Election → ℕ → List (List ℕ) → Type 0
+AreReached rule e size sets = IsFamilyLevel (step_of rule) (hit_weights rule e.m) e.m e.rows size sets

@@ -1,0 +1,204 @@
+//! The families of the winners of a sequential rule, and a tally over them.
+//!
+//! The bound says whether some family has a committee that consists of the set and of `left` candidates after c.
+//! Candidates that the set lacks of the least set are added one after another, and have to fit. Those for which the
+//! most set has room have to fill the committee (`proofs/CompletionLemmas.antt`). This is exact (`laws::exact_bounds`):
+//! `Winners` over the families enters only prefixes with a winner below. It lists the union of the families in order,
+//! each committee once.
+ghost use Rattle.std.specs.Prelude.{◌≡◌, ◌≤◌, ◌-◌, ⊤, IfOk, MatchOption, length, if◌then◌else◌};
+ghost use Rattle.ballot_base.specs.Lists.{IsIncreasing};
+ghost use Rattle.tie_walk.specs.Sequences.{sequential_winners};
+ghost use Rattle.sequential_winners.specs.Clones.{clone_count, has_as_many};
+ghost use Rattle.sequential_winners.specs.Families.{sequential_of, is_winner, some_winner};
+ghost use Rattle.sequential_winners.specs.Steps.Families.{may_be_in};
+ghost use Rattle.sequential_winners.specs.Steps.Tables.{completed};
+
+use crate::levels::Levels;
+use ballot_base::{CandSet, Clones, Profile};
+use std::alloc::{AllocError, Allocator, Global};
+use std::marker::Model;
+use tie_walk::sequential::{Choices, Step};
+use tie_walk::{SeqRule, Tally};
+
+/// The committees of size `k` that some sequence of choices of a sequential rule makes, as families. A family is a pair
+/// of sets. It has the committees of size `k` with at least as many members of each class of clones as its first set,
+/// and at most as many as its second. A committee has the value 1 if some family has it, and otherwise 0. Contracts see
+/// the election, the rule and `k`.
+#[derive(Drop)]
+pub struct Families<'a, A: Allocator + Copy = Global> {
+    profile: &'a Profile<A>,
+    rule: SeqRule,
+    pub(crate) k: u8,
+    clones: Clones,
+    leasts: Vec<CandSet, A>,
+    mosts: Vec<CandSet, A>,
+}
+
+impl<'a, A: Allocator + Copy> Model for Families<'a, A> {
+    ghost use Rattle.sequential_winners.specs.Families.{Sequential, sequential_of};
+    ghost use Rattle.sequential_winners.specs.Steps.Families.{KeepsFamilies};
+
+    ghost Value = { Sequential };
+
+    ghost view = { λ f. sequential_of f.profile.now f.rule f.k };
+
+    ghost invariant = { λ f. KeepsFamilies f.profile.now f.rule f.k f.clones f.leasts.items f.mosts.items };
+}
+
+impl<'a, A: Allocator + Copy + Drop> Families<'a, A> {
+    /// The families of the winning committees of size `k`. A failed allocation leaves nothing.
+    pub fn new(
+        alloc: A,
+        profile: &'a Profile<A>,
+        rule: SeqRule,
+        k: u8,
+    ) -> Result<Families<'a, A>, AllocError>
+        requires some { 1 ≤ k }
+        requires fits { k ≤ profile.now.m }
+        ensures { IfOk result (λ families. families ≡ sequential_of profile.now rule k) }
+    {
+        let clones = Clones::of(profile);
+        let levels = Levels {
+            choices: Choices::new(profile, rule),
+            clones: &clones,
+        };
+        let sets = levels.reached_families(alloc, rule.choices(profile.m(), k))?;
+        let mut ends = Vec::with_capacity(alloc, sets.len())?;
+        for set in &sets {
+            let end = if set.len() == k {
+                None
+            } else {
+                levels.ties_and_end(*set).1
+            };
+            ends.push(end.unwrap_or(*set))?;
+        }
+        let (leasts, mosts) = match rule.step() {
+            Step::Grow => (sets, ends),
+            Step::Shrink => (ends, sets),
+        };
+        Ok(Families {
+            profile,
+            rule,
+            k,
+            clones,
+            leasts,
+            mosts,
+        })
+    }
+}
+
+impl<'a, A: Allocator + Copy> Families<'a, A> {
+    /// The winners in order, if the families are single committees: no candidate has a clone, and every least set has
+    /// size `k`.
+    pub(crate) fn in_order(&self) -> Option<&[CandSet]>
+        ensures { MatchOption result ⊤ (λ sets.
+            sets.now ≡ sequential_winners self.now.rule self.now.election self.now.k) }
+    {
+        let (clones, k) = (&self.clones, self.k);
+        let are_apart = (1..self.m() + 1).all(|c| clones.class(c).len() == 1);
+        if !are_apart || !self.leasts.iter().all(|set| set.len() == k) {
+            return None;
+        }
+        Some(&self.leasts)
+    }
+
+    /// Whether some family has a committee that consists of `set` and of `left` candidates after `c`.
+    fn completes(&self, c: u8, set: CandSet, left: u8) -> bool
+        requires within { c ≤ self.now.election.m }
+        requires set { IsIncreasing 1 c set }
+        requires fits { left ≤ self.now.election.m - c }
+        ensures { result ≡ some_winner self.now c set left }
+    {
+        if self.k != set.len() + left {
+            return false;
+        }
+        for (least, most) in self.leasts.iter().zip(&self.mosts) {
+            if self.may_be_in((*least, *most), c, set) {
+                return true;
+            }
+        }
+        false
+    }
+
+    /// Whether a family has a committee that consists of `set` and of candidates after `c`. Two conditions must hold.
+    /// The candidates that `set` needs to have as many of each class as the least set have to fit in. The candidates
+    /// for which the most set has room have to fill the committee.
+    fn may_be_in(&self, family: (CandSet, CandSet), c: u8, set: CandSet) -> bool
+        requires least_set { IsIncreasing 1 self.now.election.m family.0 }
+        requires most_set { IsIncreasing 1 self.now.election.m family.1 }
+        requires within { c ≤ self.now.election.m }
+        requires set { IsIncreasing 1 c set }
+        requires size { length set ≤ self.now.k }
+        ensures { result ≡ may_be_in self.now.election.m self.now.election.rows c set (self.now.k - length set) family }
+    {
+        let (least, most) = family;
+        let all = self.completed(c, set, least);
+        all.len() <= self.k
+            && self.has_as_many(all, least)
+            && self.has_as_many(most, all)
+            && self.k <= self.completed(c, set, most).len()
+    }
+
+    /// The set and, for each class of clones of which it has fewer members than the other set, as many of the class's
+    /// candidates after `c` as it lacks.
+    fn completed(&self, c: u8, set: CandSet, other: CandSet) -> CandSet
+        requires within { c ≤ self.now.election.m }
+        requires set { IsIncreasing 1 c set }
+        requires other { IsIncreasing 1 self.now.election.m other }
+        ensures candidates { IsIncreasing 1 self.now.election.m result }
+        ensures made { result ≡ completed c self.now.election.m self.now.election.rows set other }
+    {
+        let m = self.m();
+        let mut all = set;
+        for x in c + 1..m + 1 {
+            if self.count(all, x) < self.count(other, x) {
+                all = all.with(x);
+            }
+        }
+        all
+    }
+
+    /// Whether a set has at least as many of each class of clones as another one.
+    fn has_as_many(&self, set: CandSet, other: CandSet) -> bool
+        requires set { IsIncreasing 1 self.now.election.m set }
+        requires other { IsIncreasing 1 self.now.election.m other }
+        ensures { result ≡ has_as_many self.now.election.m self.now.election.rows set other }
+    {
+        for c in 1..self.m() + 1 {
+            if self.count(set, c) < self.count(other, c) {
+                return false;
+            }
+        }
+        true
+    }
+
+    /// How many clones of `c` a set has.
+    fn count(&self, set: CandSet, c: u8) -> u8
+        requires set { IsIncreasing 1 self.now.election.m set }
+        requires low { 1 ≤ c }
+        requires high { c ≤ self.now.election.m }
+        ensures { result ≡ clone_count self.now.election.rows set c }
+    {
+        set.common(self.clones.class(c)).len()
+    }
+}
+
+impl<'a, A: Allocator + Copy> Tally for Families<'a, A> {
+    ghost candidates = { λ families. families.election.m };
+
+    ghost value_of = { λ families set. if is_winner families set then 1 else 0 };
+
+    ghost bound_of = { λ families c set left. if some_winner families c set left then 1 else 0 };
+
+    fn m(&self) -> u8 {
+        self.profile.m()
+    }
+
+    fn value(&self, set: CandSet) -> u128 {
+        u128::from(self.completes(self.m(), set, 0))
+    }
+
+    fn bound(&self, c: u8, set: CandSet, left: u8) -> u128 {
+        u128::from(self.completes(c, set, left))
+    }
+}

@@ -1,7 +1,0 @@
-use Rattle.std.proofs.Common.{ℕ, ◌<◌, ◌≤◌}
-use Rattle.tie_families.specs.Clones.{clone_count}
-use Rattle.tie_families.proofs.families.Families.has_as_many.Given as goal
-
--- the set has as many clones of each candidate before c
-abbrev pub invariant-loop-c : goal.invariant-loop-c
-invariant-loop-c g l = (d : ℕ) → d < l.c → 1 ≤ d → clone_count l.self.election.rows l.other d ≤ clone_count l.self.election.rows l.set d

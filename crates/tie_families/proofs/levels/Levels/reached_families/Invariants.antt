@@ -1,6 +1,0 @@
-use Rattle.tie_families.specs.Steps.Levels.{AreReached}
-use Rattle.tie_families.proofs.levels.Levels.reached_families.Given as goal
-
--- the families that so many choices make
-abbrev pub invariant-loop-done : goal.invariant-loop-done
-invariant-loop-done g l = AreReached l.self.choices.rule l.self.choices.profile.now l.done l.level.items
