@@ -60,7 +60,7 @@ exchanged committee c x = with_member (without_member committee x) c
 
 module _ (m : ℕ) (committee : List ℕ) (c x : ℕ) (up : IsIncreasing 1 m committee) (here : has_member committee x ≡ true) (out : has_member committee c ≡ false) where
   -- the candidate is not a member without x either
-  less-out : has_member (without_member committee x) c ≡ false
+  pub less-out : has_member (without_member committee x) c ≡ false
   less-out = member-without committee x c ∙ ap (λ b. not (c == x) && b) out ∙ and-false (not (c == x))
 
   -- it is a set of candidates

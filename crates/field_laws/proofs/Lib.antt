@@ -5,3 +5,6 @@ pub mod Exchanges
 pub mod Greedy
 pub mod LeftOut
 pub mod Losses
+pub mod PartyRows
+pub mod SharedSeats
+pub mod Shares

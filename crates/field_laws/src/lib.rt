@@ -2,5 +2,6 @@
 //! stand on them. Each function does nothing, and its contract is the theorem.
 #![tactic(auto)]
 
+pub mod apportionment;
 pub mod approval_voting;
 pub mod representation;
