@@ -1,12 +1,15 @@
 -- What the theorems do not say, and elections in which it is false.
-use Rattle.std.proofs.Common.{◌≡◌, [], ◌∷◌, true, refl}
+use Rattle.std.proofs.Common.{◌≡◌, [], ◌∷◌, true, map, refl}
 use Rattle.ballot_base.specs.Lists.{lists_of}
 use Rattle.ballot_base.specs.Ballots.{Election, election, voter_count}
 use Rattle.ballot_base.specs.Increments.{increments}
 use Rattle.ballot_base.specs.CommonMultiple.{common_multiple}
 use Rattle.ballot_base.specs.declared.increments.ThieleRule.TheVariants.{Av, Cc, Pav}
+use Rattle.seat_share.specs.declared.method.Method.TheVariants.{Dhondt, SainteLague}
+use Rattle.seat_share.specs.Allocations.{allocations, lists_with_sum}
+use Rattle.field_laws.specs.PartyLists.{votes_of, seats_of}
 use Rattle.tie_walk.specs.Sequences.{hit_weights, sequential_winners, supporters}
-use Rattle.tie_walk.specs.declared.sequential.SeqRule.TheVariants.{SeqCc}
+use Rattle.tie_walk.specs.declared.sequential.SeqRule.TheVariants.{SeqCc, SeqPav}
 use Rattle.tie_walk.specs.Values.{thiele_of, tally_value}
 use Rattle.tie_walk.specs.Winners.{winners}
 use Rattle.group_check.specs.declared.property.Property.TheVariants.{Jr, Pjr}
@@ -67,3 +70,68 @@ nobody = election 2 ([] ∷ [] ∷ []) []
 nobody_breaks : breaks Jr nobody (1 ∷ []) 1 [] ≡ true
 unfolding nobody
 nobody_breaks = refl
+
+-- Two parties with two candidates each, and four and two voters. Of two seats the first deserves the first one. For the
+-- second seat both have a quotient of 2.
+tied_lists : Election
+tied_lists = election 4 ([] ∷ [] ∷ [] ∷ [] ∷ []) ((1 ∷ 2 ∷ [], 4) ∷ (3 ∷ 4 ∷ [], 2) ∷ [])
+
+tied_by_pav : winners (tally_value (thiele_of tied_lists Pav 2)) 4 2
+    ≡ (1 ∷ 2 ∷ []) ∷ (1 ∷ 3 ∷ []) ∷ (1 ∷ 4 ∷ []) ∷ (2 ∷ 3 ∷ []) ∷ (2 ∷ 4 ∷ []) ∷ []
+unfolding lists_of increments common_multiple tied_lists
+tied_by_pav = refl
+
+tied_by_seqpav : sequential_winners SeqPav tied_lists 2
+    ≡ (1 ∷ 2 ∷ []) ∷ (1 ∷ 3 ∷ []) ∷ (1 ∷ 4 ∷ []) ∷ (2 ∷ 3 ∷ []) ∷ (2 ∷ 4 ∷ []) ∷ []
+unfolding lists_of hit_weights common_multiple tied_lists
+tied_by_seqpav = refl
+
+-- these are their seats, in the order of the committees, and the fair allocations
+seats_of_tied : map (seats_of tied_lists.rows) ((1 ∷ 2 ∷ []) ∷ (1 ∷ 3 ∷ []) ∷ []) ≡ (2 ∷ 0 ∷ []) ∷ (1 ∷ 1 ∷ []) ∷ []
+unfolding tied_lists
+seats_of_tied = refl
+
+tied_by_dhondt : allocations Dhondt (votes_of tied_lists.rows) 2 ≡ (1 ∷ 1 ∷ []) ∷ (2 ∷ 0 ∷ []) ∷ []
+unfolding lists_with_sum tied_lists
+tied_by_dhondt = refl
+
+-- Of five and two voters the five have both seats, as by D'Hondt's method. By that of Sainte-Laguë the two have one.
+large_and_small : Election
+large_and_small = election 4 ([] ∷ [] ∷ [] ∷ [] ∷ []) ((1 ∷ 2 ∷ [], 5) ∷ (3 ∷ 4 ∷ [], 2) ∷ [])
+
+both_by_pav : winners (tally_value (thiele_of large_and_small Pav 2)) 4 2 ≡ (1 ∷ 2 ∷ []) ∷ []
+unfolding lists_of increments common_multiple large_and_small
+both_by_pav = refl
+
+both_by_seqpav : sequential_winners SeqPav large_and_small 2 ≡ (1 ∷ 2 ∷ []) ∷ []
+unfolding lists_of hit_weights common_multiple large_and_small
+both_by_seqpav = refl
+
+one_each_by_sainte_lague : allocations SainteLague (votes_of large_and_small.rows) 2 ≡ (1 ∷ 1 ∷ []) ∷ []
+unfolding lists_with_sum large_and_small
+one_each_by_sainte_lague = refl
+
+-- The list of five voters has one candidate, so it cannot have both seats.
+short_list : Election
+short_list = election 3 ([] ∷ [] ∷ [] ∷ []) ((1 ∷ [], 5) ∷ (2 ∷ 3 ∷ [], 2) ∷ [])
+
+one_each_by_pav : winners (tally_value (thiele_of short_list Pav 2)) 3 2 ≡ (1 ∷ 2 ∷ []) ∷ (1 ∷ 3 ∷ []) ∷ []
+unfolding lists_of increments common_multiple short_list
+one_each_by_pav = refl
+
+both_by_dhondt : allocations Dhondt (votes_of short_list.rows) 2 ≡ (2 ∷ 0 ∷ []) ∷ []
+unfolding lists_with_sum short_list
+both_by_dhondt = refl
+
+-- Four of six voters approve 1. So sequential Chamberlin-Courant begins with 1 and covers five voters. The other two
+-- candidates cover all.
+covered : Election
+covered = election 3 ([] ∷ [] ∷ [] ∷ []) ((1 ∷ 2 ∷ [], 2) ∷ (1 ∷ 3 ∷ [], 2) ∷ (2 ∷ [], 1) ∷ (3 ∷ [], 1) ∷ [])
+
+five_by_seqcc : sequential_winners SeqCc covered 2 ≡ (1 ∷ 2 ∷ []) ∷ (1 ∷ 3 ∷ []) ∷ []
+unfolding lists_of hit_weights covered
+five_by_seqcc = refl
+
+all_by_cc : winners (tally_value (thiele_of covered Cc 2)) 3 2 ≡ (2 ∷ 3 ∷ []) ∷ []
+unfolding lists_of increments covered
+all_by_cc = refl

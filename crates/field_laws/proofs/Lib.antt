@@ -3,8 +3,10 @@ pub mod Deserved
 pub mod Examples
 pub mod Exchanges
 pub mod Greedy
+pub mod GreedyShares
 pub mod LeftOut
 pub mod Losses
+pub mod Nearest
 pub mod PartyRows
 pub mod SharedSeats
 pub mod Shares

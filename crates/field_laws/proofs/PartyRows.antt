@@ -36,7 +36,7 @@ among-each P (first ∷ rows) row all (inr inside) = among-each P rows row all.1
 abbrev pub lists_with : ℕ → List Row → ℕ
 lists_with c rows = count_by (λ (row : Row). has_member row.0 c) rows
 
-lists-cons : (c : ℕ) (row : Row) (rows : List Row) → lists_with c (row ∷ rows) ≡ cond (has_member row.0 c) 1 0 + lists_with c rows
+pub lists-cons : (c : ℕ) (row : Row) (rows : List Row) → lists_with c (row ∷ rows) ≡ cond (has_member row.0 c) 1 0 + lists_with c rows
 lists-cons c row rows = sum_by-cons (λ (r : Row). cond (has_member r.0 c) 1 0) row rows
 
 -- a row that has the candidate counts

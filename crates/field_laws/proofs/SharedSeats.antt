@@ -30,8 +30,7 @@ use Rattle.tie_walk.proofs.LawLemmas.{no_greater_value, some_winner, winner-from
 use Rattle.tie_walk.proofs.SequenceLemmas.{length-without_member}
 use Rattle.tie_walk.proofs.WorthLemmas.{partial}
 use Rattle.seat_share.specs.declared.method.Method.TheVariants.{Dhondt}
-use Rattle.seat_share.specs.Fair.{IsFair}
-use Rattle.field_laws.specs.PartyLists.{ArePartyLists, votes_of, seats_of}
+use Rattle.field_laws.specs.PartyLists.{ArePartyLists, IsApportioned}
 use Rattle.field_laws.proofs.Exchanges.{exchanged, exchanged-size, exchanged-up, hits-turned, hits-without, less-out, no-better}
 use Rattle.field_laws.proofs.Losses.{value-without}
 use Rattle.field_laws.proofs.PartyRows.{Among, among-each, given-none, given-once, hits-together, lists_with, same-list, some-list}
@@ -114,7 +113,7 @@ price-least k most committee [] each = omega arith
 price-least k most committee (row ∷ rows) each = omega (arith, each row (inl refl), price-least k most committee rows (λ r inside. each r (inr inside)))
 
 -- two parts of a whole, compared by their divisors
-cross : (u v s t one other whole : ℕ) → one * s ≡ whole → other * (t + 1) ≡ whole → 1 ≤ whole → u * other ≤ v * one → u * s ≤ v * (t + 1)
+pub cross : (u v s t one other whole : ℕ) → one * s ≡ whole → other * (t + 1) ≡ whole → 1 ≤ whole → u * other ≤ v * one → u * s ≤ v * (t + 1)
 cross u v s t one other whole is is' some less =
     let more : u * other * ((t + 1) * s) ≤ v * one * ((t + 1) * s) = mul-le-mul_right ((t + 1) * s) less in
     let first = ap (λ n. v * (t + 1) * n) is in
@@ -122,12 +121,12 @@ cross u v s t one other whole is is' some less =
     le_of_mul-le-mul_right {m = u * s} {n = v * (t + 1)} {k = whole} (omega (arith, more, first, second)) some
 
 -- a part of something is something
-some-part : (part j whole : ℕ) → part * j ≡ whole → 1 ≤ whole → 1 ≤ part
+pub some-part : (part j whole : ℕ) → part * j ≡ whole → 1 ≤ whole → 1 ≤ part
 some-part zero j whole is some = absurd (omega (arith, is, some))
 some-part (suc part) j whole is some = omega arith
 
 -- and the other way, if the second part is rounded down
-cross-back : (u v s t one other whole : ℕ) → one * s ≡ whole → other * (t + 1) ≤ whole → 1 ≤ s → u * s ≤ v * (t + 1) → u * other ≤ v * one
+pub cross-back : (u v s t one other whole : ℕ) → one * s ≡ whole → other * (t + 1) ≤ whole → 1 ≤ s → u * s ≤ v * (t + 1) → u * other ≤ v * one
 cross-back u v s t one other whole is is' some less =
     let more : u * s * other ≤ v * (t + 1) * other = mul-le-mul_right other less in
     let first = ap (λ n. v * n) is in
@@ -135,7 +134,7 @@ cross-back u v s t one other whole is is' some less =
     le_of_mul-le-mul_right {m = u * other} {n = v * one} {k = s} (omega (arith, more, first, second)) some
 
 -- a list that is not whole in a set has a candidate outside it
-some-out : (ballot set : List ℕ) → hits ballot set < length ballot → (c : ℕ) × (has_member ballot c ≡ true) × (has_member set c ≡ false)
+pub some-out : (ballot set : List ℕ) → hits ballot set < length ballot → (c : ℕ) × (has_member ballot c ≡ true) × (has_member set c ≡ false)
 some-out [] set few = absurd (omega (arith, few))
 some-out (n ∷ ballot) set few = by (has_member set n) refl (some-out ballot set)
   where
@@ -150,7 +149,7 @@ some-out (n ∷ ballot) set few = by (has_member set n) refl (some-out ballot se
         (rest.0, or_right (n == rest.0) (has_member ballot rest.0) rest.1, rest.2)
 
 -- a list that hits has a member
-some-in : (ballot set : List ℕ) → 1 ≤ hits ballot set → (x : ℕ) × (has_member ballot x ≡ true) × (has_member set x ≡ true)
+pub some-in : (ballot set : List ℕ) → 1 ≤ hits ballot set → (x : ℕ) × (has_member ballot x ≡ true) × (has_member set x ≡ true)
 some-in [] set some = absurd (omega (arith, some))
 some-in (n ∷ ballot) set some = by (has_member set n) refl (some-in ballot set)
   where
@@ -165,7 +164,7 @@ some-in (n ∷ ballot) set some = by (has_member set n) refl (some-in ballot set
         (rest.0, or_right (n == rest.0) (has_member ballot rest.0) rest.1, rest.2)
 
 -- the members of a ballot are candidates
-ballot-within : (m : ℕ) (ballot : List ℕ) (c : ℕ) → IsIncreasing 1 m ballot → has_member ballot c ≡ true → (1 ≤ c) × (c ≤ m)
+pub ballot-within : (m : ℕ) (ballot : List ℕ) (c : ℕ) → IsIncreasing 1 m ballot → has_member ballot c ≡ true → (1 ≤ c) × (c ≤ m)
 ballot-within m ballot c up has = (
   elim (cases_lt c 1) [
     | inl low ↦ absurd (let e : true ≡ false = sym has ∙ has_member-below 1 m ballot c up low in cc)
@@ -188,7 +187,7 @@ sum-ones-most f [] each = omega arith
 sum-ones-most f (x ∷ xs) each = omega (arith, each x, sum-ones-most f xs each, sum_by-cons f x xs)
 
 -- nobody has more hits than the set has members
-hits-few : (m : ℕ) (ballot set : List ℕ) → IsIncreasing 1 m ballot → IsIncreasing 1 m set → hits ballot set ≤ length set
+pub hits-few : (m : ℕ) (ballot set : List ℕ) → IsIncreasing 1 m ballot → IsIncreasing 1 m set → hits ballot set ≤ length set
 hits-few m ballot set up set_up = omega (arith, hits-turned 1 m ballot set up set_up, count_by-le-length (has_member ballot) set)
 
 module _ (m k : ℕ) (rows : List Row) (most : k ≤ most_members) (all : AreBallots m rows) (lists : ArePartyLists k rows) (counts : (row : Row) → Among rows row → 1 ≤ row.1) (committee : List ℕ)
@@ -318,28 +317,32 @@ module _ (m k : ℕ) (rows : List Row) (most : k ≤ most_members) (all : AreBal
         let theirs : price * sum_by (λ (row : Row). hits row.0 set) rows ≤ price * k = mul-le-mul_left price few in
         omega (arith, ours, theirs, rows-priced rows (λ row inside. inside))
 
+-- each row has voters, and there is a row if there is a voter
+pub each-counts : (rows : List Row) → AllByRecursion (λ (row : Row). 0 < row.1) rows → (row : Row) → Among rows row → 1 ≤ row.1
+each-counts rows all row inside = among-each (λ (r : Row). 0 < r.1) rows row all inside
+
+pub some-row : (rows : List Row) → 1 ≤ voter_count rows → (row : Row) × Among rows row
+some-row [] some = absurd (omega (arith, some))
+some-row (row ∷ rows) some = (row, inl refl)
+
 -- both ways
 pub pav-shares : (e : Election) (k : ℕ) (committee : List ℕ) → IsElection e → 1 ≤ voter_count e.rows → k ≤ most_members → ArePartyLists k e.rows
-    → Contains (winners (tally_value (thiele_of e Pav k)) e.m k) committee ↔ (IsIncreasing 1 e.m committee × (length committee ≡ k) × IsFair Dhondt (votes_of e.rows) k (seats_of e.rows committee))
+    → Contains (winners (tally_value (thiele_of e Pav k)) e.m k) committee ↔ IsApportioned Dhondt e k committee
 pav-shares e k committee valid voters most lists = (
   λ wins.
       let is = winner-is (tally_value (thiele_of e Pav k)) e.m k committee wins in
       let row = some-row e.rows voters in
       let shares = shared e.m k e.rows most valid.ballots lists counts committee is.0 is.1 (λ set up size. no-better (tally_value (thiele_of e Pav k)) e.m k committee set wins up size) row.0 row.1 in
-      (is.0, is.1, fair-from_shared k e.rows committee counts shares),
-  λ fair.
+      record { candidates = is.0; size = is.1; fair = fair-from_shared k e.rows committee counts shares },
+  λ is_fair.
       let value = tally_value (thiele_of e Pav k) in
-      let is = shared-from_fair k e.rows committee counts fair.2 in
-      let best = some_winner value e.m k (omega (arith, fair.1, length-increasing 1 e.m committee fair.0)) in
+      let is = shared-from_fair k e.rows committee counts is_fair.fair in
+      let best = some_winner value e.m k (omega (arith, is_fair.size, length-increasing 1 e.m committee is_fair.candidates)) in
       let chosen = winner-is value e.m k best.0 best.1 in
-      let no_better = no-worse e.m k e.rows most valid.ballots lists counts committee fair.0 fair.1 is best.0 chosen.0 chosen.1 in
+      let no_better = no-worse e.m k e.rows most valid.ballots lists counts committee is_fair.candidates is_fair.size is best.0 chosen.0 chosen.1 in
       winner-from_is value e.m k committee
-      (fair.0, fair.1, omega (arith, no_better, chosen.2, no_greater_value value e.m k committee (increasing_lists-contains 1 e.m k committee (fair.0, fair.1)))),
+      (is_fair.candidates, is_fair.size, omega (arith, no_better, chosen.2, no_greater_value value e.m k committee (increasing_lists-contains 1 e.m k committee (is_fair.candidates, is_fair.size)))),
 )
   where
     counts : (row : Row) → Among e.rows row → 1 ≤ row.1
-    counts row inside = among-each (λ (r : Row). 0 < r.1) e.rows row valid.counts inside
-
-    some-row : (rows : List Row) → 1 ≤ voter_count rows → (row : Row) × Among rows row
-    some-row [] some = absurd (omega (arith, some))
-    some-row (row ∷ rows) some = (row, inl refl)
+    counts row inside = each-counts e.rows valid.counts row inside
