@@ -1,4 +1,5 @@
 pub mod Approvals
+pub mod Cuts
 pub mod Deserved
 pub mod Examples
 pub mod Exchanges
@@ -8,5 +9,6 @@ pub mod LeftOut
 pub mod Losses
 pub mod Nearest
 pub mod PartyRows
+pub mod ReadBack
 pub mod SharedSeats
 pub mod Shares

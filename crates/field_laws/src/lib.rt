@@ -4,4 +4,5 @@
 
 pub mod apportionment;
 pub mod approval_voting;
+pub mod printed_lists;
 pub mod representation;
