@@ -1,5 +1,5 @@
 -- What the theorems do not say, and elections in which it is false.
-use Rattle.std.proofs.Common.{◌≡◌, [], ◌∷◌, true, map, refl}
+use Rattle.std.proofs.Common.{◌≡◌, [], ◌∷◌, Some, None, true, map, refl}
 use Rattle.ballot_base.specs.Lists.{lists_of}
 use Rattle.ballot_base.specs.Ballots.{Election, election, voter_count}
 use Rattle.ballot_base.specs.Increments.{increments}
@@ -7,6 +7,7 @@ use Rattle.ballot_base.specs.CommonMultiple.{common_multiple}
 use Rattle.ballot_base.specs.declared.increments.ThieleRule.TheVariants.{Av, Cc, Pav}
 use Rattle.seat_share.specs.declared.method.Method.TheVariants.{Dhondt, SainteLague}
 use Rattle.seat_share.specs.Allocations.{allocations, lists_with_sum}
+use Rattle.vote_cli.specs.Listing.{allocation_line, answers_text, committee_line}
 use Rattle.field_laws.specs.PartyLists.{votes_of, seats_of}
 use Rattle.tie_walk.specs.Sequences.{hit_weights, sequential_winners, supporters}
 use Rattle.tie_walk.specs.declared.sequential.SeqRule.TheVariants.{SeqCc, SeqPav}
@@ -135,3 +136,17 @@ five_by_seqcc = refl
 all_by_cc : winners (tally_value (thiele_of covered Cc 2)) 3 2 ≡ (2 ∷ 3 ∷ []) ∷ []
 unfolding lists_of increments covered
 all_by_cc = refl
+
+-- If a name had the byte that ends a line, one committee could look like two: the name x of 1, and then 2 and its name.
+one_long_name : answers_text (committee_line (Some ((120 ∷ 10 ∷ 50 ∷ 9 ∷ 121 ∷ []) ∷ []))) None ((1 ∷ []) ∷ [])
+    ≡ answers_text (committee_line (Some ((120 ∷ []) ∷ (121 ∷ []) ∷ []))) None ((1 ∷ []) ∷ (2 ∷ []) ∷ [])
+one_long_name = refl
+
+-- a limit hides what comes after it
+hidden_committee : answers_text (committee_line None) (Some 1) ((1 ∷ []) ∷ (2 ∷ []) ∷ [])
+    ≡ answers_text (committee_line None) (Some 1) ((1 ∷ []) ∷ (3 ∷ []) ∷ [])
+hidden_committee = refl
+
+hidden_allocation : answers_text (allocation_line None) (Some 1) ((0 ∷ 1 ∷ []) ∷ (1 ∷ 0 ∷ []) ∷ [])
+    ≡ answers_text (allocation_line None) (Some 1) ((0 ∷ 1 ∷ []) ∷ (2 ∷ 0 ∷ []) ∷ [])
+hidden_allocation = refl

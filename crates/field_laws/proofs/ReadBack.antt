@@ -1,5 +1,5 @@
 -- Lists of answers with the same text are the same.
-use Rattle.std.proofs.Common.{◌≡◌, ℕ, zero, suc, ◌+◌, ◌-◌, ◌<◌, ◌≤◌, ◌^◌, ◌==◌, ◌∙◌, ◌⊎◌, Bool, true, false, cond, List, [], ◌∷◌, ◌++◌, refl, sym, ap, arith, inl, inr, append-nil, append_assoc, filter, flat_map, get_or, length, map, take, None, Some, Option}
+use Rattle.std.proofs.Common.{◌≡◌, ℕ, zero, suc, ◌+◌, ◌-◌, ◌<◌, ◌≤◌, ◌^◌, ◌==◌, ◌||◌, ◌∙◌, Bool, true, false, cond, List, [], ◌∷◌, ◌++◌, refl, sym, ap, arith, inl, inr, append-nil, append_assoc, filter, flat_map, get_or, length, map, take, None, Some, Option}
 use Rattle.std.specs.Prelude.{codes, decimal, nat_lt, slice_get, slice_index, unwrap_or}
 use Rattle.std.specs.List.{AllByRecursion, range_with_len}
 use Rattle.std.proofs.lemmas.Bool.{false≢true, true≢false}
@@ -43,7 +43,7 @@ lacks-names names [] all fit = tt
 lacks-names names (n ∷ []) all fit = lacks-called names n all fit.0
 lacks-names names (n ∷ next ∷ numbers) all fit =
     lacks-append 10 (called names n ++ codes "; ") (names_text names (next ∷ numbers))
-    (lacks-append 10 (called names n) (codes "; ") (lacks-called names n all fit.0) (refl, refl, tt)) (lacks-names names (next ∷ numbers) all fit.1)
+    (lacks-append 10 (called names n) (codes "; ") (lacks-called names n all fit.0) (refl, (refl, tt))) (lacks-names names (next ∷ numbers) all fit.1)
 
 lacks-beside : (names : Names) (numbers : List ℕ) → AreInLines names → AllByRecursion (λ n. n < 2 ^ 64) numbers → Lacks 10 (beside names numbers)
 lacks-beside None numbers all fit = tt
@@ -66,8 +66,8 @@ last_words true = codes "more"
 last_words false = codes "end"
 
 last-lacks : (b : Bool) → Lacks 10 (last_words b)
-last-lacks true = (refl, refl, refl, refl, tt)
-last-lacks false = (refl, refl, refl, tt)
+last-lacks true = (refl, (refl, (refl, (refl, tt))))
+last-lacks false = (refl, (refl, (refl, tt)))
 
 last-is : (b : Bool) → last_line b ≡ last_words b ++ 10 ∷ []
 last-is true = refl
@@ -107,8 +107,8 @@ module _ (beside_of : List ℕ → List ℕ) where
   not-last b names numbers fit same = by b numbers fit.0 (first b) (sym (before-end 9 (last_words b) (tabs b)) ∙ ap (before 9) same ∙ before-tab names (numbers_text numbers) (beside_of numbers) (lacks-numbers 9 numbers (omega arith) fit.0))
     where
       tabs : (x : Bool) → Lacks 9 (last_words x)
-      tabs true = (refl, refl, refl, refl, tt)
-      tabs false = (refl, refl, refl, tt)
+      tabs true = (refl, (refl, (refl, (refl, tt))))
+      tabs false = (refl, (refl, (refl, tt)))
 
       first : (x : Bool) → (letter : ℕ) × (rest : List ℕ) × (58 ≤ letter) × (last_words x ≡ letter ∷ rest)
       first true = (109, codes "ore", omega arith, refl)
@@ -165,7 +165,7 @@ module _ (beside_of : List ℕ → List ℕ) where
 -- a number within a range of 64 bits
 range-fits : (first count : ℕ) → first + count ≤ 2 ^ 64 → Fit (range_with_len first count)
 range-fits first zero fits = tt
-range-fits first (suc count) fits = (omega (arith, fits), range-fits (suc first) count (omega (arith, fits)))
+range-fits first (suc count) fits = (omega (arith, fits), range-fits (first + 1) count (omega (arith, fits)))
 
 filter-fits : (p : ℕ → Bool) (numbers : List ℕ) → Fit numbers → Fit (filter p numbers)
 filter-fits p [] fit = tt

@@ -18,11 +18,11 @@ pub fn committees_can_be_read_back()
 
 /// So do two lists of allocations of seats.
 pub fn allocations_can_be_read_back()
-    ensures { (names other_names : Names) (limit other_limit : Option ℕ) (answers others : List (List ℕ))
+    ensures { (names other_names : Names) (limit other_limit : Option ℕ) (allocations others : List (List ℕ))
         → AreInLines names → AreInLines other_names
-        → AllByRecursion AreNumbers answers → AllByRecursion AreNumbers others
-        → answers_text (allocation_line names) limit answers
+        → AllByRecursion AreNumbers allocations → AllByRecursion AreNumbers others
+        → answers_text (allocation_line names) limit allocations
         ≡ answers_text (allocation_line other_names) other_limit others
-        → (within_limit limit answers ≡ within_limit other_limit others)
-        × (has_more limit answers ≡ has_more other_limit others) }
+        → (within_limit limit allocations ≡ within_limit other_limit others)
+        × (has_more limit allocations ≡ has_more other_limit others) }
 {}
