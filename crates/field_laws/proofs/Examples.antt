@@ -1,5 +1,6 @@
 -- What the theorems do not say, and elections in which it is false.
 use Rattle.std.proofs.Common.{◌≡◌, [], ◌∷◌, Some, None, true, map, refl}
+use Rattle.std.specs.Fmt.{digits}
 use Rattle.ballot_base.specs.Lists.{lists_of}
 use Rattle.ballot_base.specs.Ballots.{Election, election, voter_count}
 use Rattle.ballot_base.specs.Increments.{increments}
@@ -140,13 +141,16 @@ all_by_cc = refl
 -- If a name had the byte that ends a line, one committee could look like two: the name x of 1, and then 2 and its name.
 one_long_name : answers_text (committee_line (Some ((120 ∷ 10 ∷ 50 ∷ 9 ∷ 121 ∷ []) ∷ []))) None ((1 ∷ []) ∷ [])
     ≡ answers_text (committee_line (Some ((120 ∷ []) ∷ (121 ∷ []) ∷ []))) None ((1 ∷ []) ∷ (2 ∷ []) ∷ [])
+unfolding digits
 one_long_name = refl
 
 -- a limit hides what comes after it
 hidden_committee : answers_text (committee_line None) (Some 1) ((1 ∷ []) ∷ (2 ∷ []) ∷ [])
     ≡ answers_text (committee_line None) (Some 1) ((1 ∷ []) ∷ (3 ∷ []) ∷ [])
+unfolding digits
 hidden_committee = refl
 
 hidden_allocation : answers_text (allocation_line None) (Some 1) ((0 ∷ 1 ∷ []) ∷ (1 ∷ 0 ∷ []) ∷ [])
     ≡ answers_text (allocation_line None) (Some 1) ((0 ∷ 1 ∷ []) ∷ (2 ∷ 0 ∷ []) ∷ [])
+unfolding digits
 hidden_allocation = refl
