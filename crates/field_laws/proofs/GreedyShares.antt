@@ -1,29 +1,27 @@
 -- On party lists, sequential proportional approval voting makes exactly the committees that share out their seats by
 -- D'Hondt's method. A seat goes to a list that gives most for it, and this keeps the shares right. The other way, the
 -- seat for which its list gives least is the last one to be given.
-use Rattle.std.proofs.Common.{◌≡◌, ℕ, zero, suc, ◌+◌, ◌-◌, ◌*◌, ◌/◌, ◌<◌, ◌≤◌, ◌∙◌, ◌↔◌, ◌⊎◌, ◌==◌, ◌&&◌, ◌||◌, Bool, true, false, not, cond, List, [], ◌∷◌, refl, sym, ap, arith, inl, inr, length, subst, get_or, sum_by, Contains}
+use Rattle.std.proofs.Common.{◌≡◌, ℕ, zero, suc, ◌+◌, ◌*◌, ◌/◌, ◌≤◌, ◌∙◌, ◌↔◌, ◌==◌, Bool, true, false, not, cond, List, [], ◌∷◌, refl, sym, ap, arith, inl, inr, length, subst, sum_by, Contains}
 use Rattle.std.specs.Prelude.{nat_le}
 use Rattle.std.specs.List.{list_all, range_with_len}
 use Rattle.std.proofs.Math.Nat.{div-mul-le_self, le_of_mul-le-mul_right, mul-le-mul_left, mul-le-mul_right, one-le-mul}
-use Rattle.std.proofs.lemmas.Bool.{and_from, and_parts, cases_Bool, cases_lt, le-leb, leb-true}
-use Rattle.std.proofs.lemmas.List.Elements.{All-contains}
+use Rattle.std.proofs.lemmas.Bool.{and_from, and_parts, cases_lt, le-leb, leb-true}
 use Rattle.std.proofs.lemmas.List.Sums.{sum_by-cons}
 use Rattle.ballot_base.specs.Lists.{IsIncreasing}
 use Rattle.ballot_base.specs.CandSet.{has_member, with_member, without_member}
 use Rattle.ballot_base.specs.CommonMultiple.{common_multiple}
 use Rattle.ballot_base.specs.Ballots.{Row, Election, IsElection, hits, voter_count}
 use Rattle.ballot_base.proofs.Committees.{IsIncreasing-range, length-increasing}
-use Rattle.ballot_base.proofs.Increasing.{IsIncreasing-filter, IsIncreasing-with_member, has_member-filter, has_member-with_member, length-with_member, same_increasing}
+use Rattle.ballot_base.proofs.Increasing.{IsIncreasing-filter, IsIncreasing-with_member, has_member-filter, length-with_member}
 use Rattle.ballot_base.proofs.LeastMultiples.{common_multiple_some}
 use Rattle.ballot_base.proofs.WeightLemmas.{quotient-exact}
-use Rattle.tie_walk.specs.Sequences.{weight, gain, hit_weights, sequential_winners, is_sequential_winner}
+use Rattle.tie_walk.specs.Sequences.{weight, gain, hit_weights, sequential_winners}
 use Rattle.tie_walk.specs.Steps.Choices.{change, is_choice, open_candidates, IsReached}
 use Rattle.tie_walk.specs.declared.sequential.SeqRule.TheVariants.{SeqPav}
 use Rattle.tie_walk.specs.declared.sequential.Step.TheVariants.{Grow}
 use Rattle.tie_walk.proofs.Choices.{reached_last, reached_more, reached_none, reached_start}
 use Rattle.tie_walk.proofs.Gains.{hits-with}
 use Rattle.tie_walk.proofs.HitWeights.{hit_weights-at}
-use Rattle.tie_walk.proofs.LawLemmas.{Contains-from_filter}
 use Rattle.tie_walk.proofs.RowSums.{AreBallots}
 use Rattle.tie_walk.proofs.SequenceLaws.{grown-winner}
 use Rattle.tie_walk.proofs.SequenceLemmas.{fold-grow, grown-follows, length-without_member}
@@ -33,7 +31,7 @@ use Rattle.group_check.proofs.GroupLemmas.{has_member-range}
 use Rattle.group_check.proofs.SetLemmas.{all_pass, passes_at}
 use Rattle.seat_share.specs.declared.method.Method.TheVariants.{Dhondt}
 use Rattle.field_laws.specs.PartyLists.{ArePartyLists, IsApportioned}
-use Rattle.field_laws.proofs.Exchanges.{hits-without, not-member}
+use Rattle.field_laws.proofs.Exchanges.{not-member}
 use Rattle.field_laws.proofs.PartyRows.{Among, among-each, given-none, given-once, lists_with, lists-cons, same-list, some-list}
 use Rattle.field_laws.proofs.SharedSeats.{ballot-within, cross, cross-back, hits-few, each-counts, some-in, some-out, some-part, some-row}
 use Rattle.field_laws.proofs.Shares.{IsShared, fair-from_shared, shared-from_fair}
@@ -78,14 +76,17 @@ cheapest (row ∷ rows) set some = elim (cases_lt 0 (hits row.0 set)) [
 ]
   where
     shifted : hits row.0 set ≡ 0 → (one : Row) × IsCheapest rows set one → (one : Row) × IsCheapest (row ∷ rows) set one
-    shifted none found = (found.0, record {
-      inside = inr found.1.inside;
-      seat = found.1.seat;
-      least = λ other among seat. elim among [
-        | inl is ↦ absurd (omega (arith, none, seat, ap (λ (r : Row). hits r.0 set) is))
-        | inr later ↦ found.1.least other later seat
-      ];
-    })
+    shifted none found = (
+      found.0,
+      record {
+        inside = inr found.1.inside;
+        seat = found.1.seat;
+        least = λ other among seat. elim among [
+          | inl is ↦ absurd (omega (arith, none, seat, ap (λ (r : Row). hits r.0 set) is))
+          | inr later ↦ found.1.least other later seat
+        ];
+      },
+    )
 
     none-among : (list : List Row) (other : Row) → sum_by (λ (r : Row). hits r.0 set) list ≡ 0 → Among list other → hits other.0 set ≡ 0
     none-among [] other none among = absurd among
@@ -98,22 +99,28 @@ cheapest (row ∷ rows) set some = elim (cases_lt 0 (hits row.0 set)) [
 
     compared : 1 ≤ hits row.0 set → (one : Row) × IsCheapest rows set one → (one : Row) × IsCheapest (row ∷ rows) set one
     compared seat found = elim (cases_lt (found.0.1 * hits row.0 set) (row.1 * hits found.0.0 set)) [
-      | inl dearer ↦ (found.0, record {
-        inside = inr found.1.inside;
-        seat = found.1.seat;
-        least = λ other among has. elim among [
-          | inl is ↦ omega (arith, dearer, ap (λ (r : Row). found.0.1 * hits r.0 set) is, ap (λ (r : Row). r.1 * hits found.0.0 set) is)
-          | inr later ↦ found.1.least other later has
-        ];
-      })
-      | inr cheaper ↦ (row, record {
-        inside = inl refl;
-        seat = seat;
-        least = λ other among has. elim among [
-          | inl is ↦ omega (arith, ap (λ (r : Row). row.1 * hits r.0 set) is, ap (λ (r : Row). r.1 * hits row.0 set) is)
-          | inr later ↦ through row.1 (hits row.0 set) found.0.1 (hits found.0.0 set) other.1 (hits other.0 set) found.1.seat cheaper (found.1.least other later has)
-        ];
-      })
+      | inl dearer ↦ (
+        found.0,
+        record {
+          inside = inr found.1.inside;
+          seat = found.1.seat;
+          least = λ other among has. elim among [
+            | inl is ↦ omega (arith, dearer, ap (λ (r : Row). found.0.1 * hits r.0 set) is, ap (λ (r : Row). r.1 * hits found.0.0 set) is)
+            | inr later ↦ found.1.least other later has
+          ];
+        },
+      )
+      | inr cheaper ↦ (
+        row,
+        record {
+          inside = inl refl;
+          seat = seat;
+          least = λ other among has. elim among [
+            | inl is ↦ omega (arith, ap (λ (r : Row). row.1 * hits r.0 set) is, ap (λ (r : Row). r.1 * hits row.0 set) is)
+            | inr later ↦ through row.1 (hits row.0 set) found.0.1 (hits found.0.0 set) other.1 (hits other.0 set) found.1.seat cheaper (found.1.least other later has)
+          ];
+        },
+      )
     ]
 
 module _ (m k : ℕ) (rows : List Row) (all : AreBallots m rows) (lists : ArePartyLists k rows) (counts : (row : Row) → Among rows row → 1 ≤ row.1) (some_list : Row) (is_list : Among rows some_list) where

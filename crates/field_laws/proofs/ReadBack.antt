@@ -1,10 +1,10 @@
 -- Lists of answers with the same text are the same.
-use Rattle.std.proofs.Common.{◌≡◌, ℕ, zero, suc, ◌+◌, ◌-◌, ◌<◌, ◌≤◌, ◌^◌, ◌==◌, ◌||◌, ◌∙◌, Bool, true, false, cond, List, [], ◌∷◌, ◌++◌, refl, sym, ap, arith, inl, inr, append-nil, append_assoc, filter, flat_map, get_or, length, map, take, None, Some, Option}
-use Rattle.std.specs.Prelude.{codes, decimal, nat_lt, slice_get, slice_index, unwrap_or}
+use Rattle.std.proofs.Common.{◌≡◌, ℕ, zero, suc, ◌+◌, ◌-◌, ◌<◌, ◌≤◌, ◌^◌, ◌==◌, ◌||◌, ◌∙◌, Bool, true, false, cond, List, [], ◌∷◌, ◌++◌, refl, sym, ap, arith, append-nil, append_assoc, filter, flat_map, get_or, length, take, None, Some, Option}
+use Rattle.std.specs.Prelude.{codes, nat_lt, slice_get, slice_index, unwrap_or}
 use Rattle.std.specs.List.{AllByRecursion, range_with_len}
-use Rattle.std.proofs.lemmas.Bool.{false≢true, true≢false}
+use Rattle.std.proofs.lemmas.Bool.{true≢false}
 use Rattle.ballot_base.specs.CandSet.{has_member}
-use Rattle.text_output.specs.Names.{Names, beside, called, joined, name_or_number, names_text, candidates_text, seated_parties}
+use Rattle.text_output.specs.Names.{Names, beside, called, name_or_number, names_text, seated_parties}
 use Rattle.text_output.specs.Text.{line, numbers_text}
 use Rattle.vote_cli.specs.Listing.{allocation_line, answers_text, committee_line, has_more, last_line, within_limit}
 use Rattle.field_laws.specs.Lines.{AreInLines, AreNumbers}

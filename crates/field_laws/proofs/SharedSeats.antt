@@ -2,15 +2,14 @@
 -- method. A winner does, since an exchange of a member for a candidate of another list brings nothing. The other way,
 -- what each list would give for one seat more is at most a price, and what it gives for each seat that it has is at
 -- least this price. So no other committee is worth more.
-use Rattle.std.proofs.Common.{◌≡◌, ℕ, zero, suc, ◌+◌, ◌-◌, ◌*◌, ◌/◌, ◌<◌, ◌≤◌, ◌∙◌, ◌↔◌, ◌==◌, Bool, true, false, not, cond, List, [], ◌∷◌, refl, sym, ap, arith, inl, inr, max, length, take, get_or, sum, sum_by, Contains}
-use Rattle.std.specs.Prelude.{count_by}
+use Rattle.std.proofs.Common.{◌≡◌, ℕ, zero, suc, ◌+◌, ◌-◌, ◌*◌, ◌/◌, ◌<◌, ◌≤◌, ◌∙◌, ◌↔◌, ◌==◌, Bool, true, false, not, cond, List, [], ◌∷◌, refl, sym, ap, arith, inl, inr, max, length, take, sum, sum_by, Contains}
 use Rattle.std.specs.List.{AllByRecursion}
-use Rattle.std.proofs.Math.Nat.{div-mul-le_self, le_of_mul-le-mul_right, mul-le-mul, mul-le-mul_left, mul-le-mul_right, one-le-mul}
+use Rattle.std.proofs.Math.Nat.{div-mul-le_self, le_of_mul-le-mul_right, mul-le-mul_left, mul-le-mul_right, one-le-mul}
 use Rattle.std.proofs.lemmas.Bool.{cases_Bool, cases_lt, or_right}
 use Rattle.std.proofs.lemmas.List.Sums.{count_by-le-length, sum_by-cons}
 use Rattle.ballot_base.specs.Limits.{most_members}
 use Rattle.ballot_base.specs.Lists.{IsIncreasing}
-use Rattle.ballot_base.specs.CandSet.{has_member, with_member, without_member}
+use Rattle.ballot_base.specs.CandSet.{has_member, without_member}
 use Rattle.ballot_base.specs.CommonMultiple.{common_multiple}
 use Rattle.ballot_base.specs.Increments.{increments}
 use Rattle.ballot_base.specs.declared.increments.ThieleRule.TheVariants.{Pav}

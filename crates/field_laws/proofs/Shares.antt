@@ -1,14 +1,14 @@
 -- The seats that a committee gives parties, and D'Hondt's method.
-use Rattle.std.proofs.Common.{◌≡◌, ℕ, zero, suc, ◌+◌, ◌-◌, ◌*◌, ◌/◌, ◌<◌, ◌≤◌, ◌∙◌, ◌↔◌, ◌&&◌, ◌||◌, ◌==◌, Bool, true, false, not, List, [], ◌∷◌, refl, sym, ap, arith, inl, inr, map, length, sum, sum_by}
-use Rattle.std.specs.Prelude.{nat_le, IsTrue}
-use Rattle.std.specs.List.{list_all, zip, AllByRecursion}
+use Rattle.std.proofs.Common.{◌≡◌, ℕ, zero, suc, ◌+◌, ◌-◌, ◌*◌, ◌≤◌, ◌∙◌, ◌&&◌, ◌||◌, ◌==◌, Bool, true, false, not, List, [], ◌∷◌, refl, sym, ap, arith, map, length, sum, sum_by}
+use Rattle.std.specs.Prelude.{nat_le}
+use Rattle.std.specs.List.{list_all, zip}
 use Rattle.std.proofs.lemmas.Bool.{and_from, and_parts, eq-eqb, eqb-true, le-leb, leb-true, ne_eqb}
 use Rattle.std.proofs.lemmas.List.{length-map}
 use Rattle.std.proofs.lemmas.List.Folds.{list_all-map}
 use Rattle.std.proofs.lemmas.List.Sums.{sum-map}
 use Rattle.ballot_base.specs.Ballots.{Row, hits}
 use Rattle.seat_share.specs.declared.method.Method.TheVariants.{Dhondt}
-use Rattle.seat_share.specs.Fair.{Party, keeps_its_seat, all_pairs, has_votes_for_seats, is_right, is_fair, IsFair}
+use Rattle.seat_share.specs.Fair.{Party, keeps_its_seat, has_votes_for_seats, is_right, IsFair}
 use Rattle.seat_share.specs.Quotients.{Quotient, quotient, is_at_least}
 use Rattle.field_laws.specs.PartyLists.{votes_of, seats_of}
 use Rattle.field_laws.proofs.PartyRows.{Among, all-among, among-all}
@@ -121,9 +121,9 @@ module _ (k : ℕ) (rows : List Row) (committee : List ℕ) (counts : (row : Row
       record {
         all = sym (sum-map (λ (row : Row). hits row.0 committee) rows) ∙ eqb-true (sum seats) k parts.0;
         best = λ one other inside inside' seat.
-          let pairs = among-all (λ (row : Row). list_all (keeps_its_seat Dhondt (party_of committee row)) (zip votes seats)) rows one
-          (sym (each-party (λ party. list_all (keeps_its_seat Dhondt party) (zip votes seats))) ∙ parts.1) inside in
-          let pair = among-all (λ (row : Row). keeps_its_seat Dhondt (party_of committee one) (party_of committee row)) rows other
-          (sym (each-party (keeps_its_seat Dhondt (party_of committee one))) ∙ pairs) inside' in
-          kept one.1 (hits one.0 committee) other.1 (hits other.0 committee) pair (counts one inside) (counts other inside') seat;
+            let pairs = among-all (λ (row : Row). list_all (keeps_its_seat Dhondt (party_of committee row)) (zip votes seats)) rows one
+            (sym (each-party (λ party. list_all (keeps_its_seat Dhondt party) (zip votes seats))) ∙ parts.1) inside in
+            let pair = among-all (λ (row : Row). keeps_its_seat Dhondt (party_of committee one) (party_of committee row)) rows other
+            (sym (each-party (keeps_its_seat Dhondt (party_of committee one))) ∙ pairs) inside' in
+            kept one.1 (hits one.0 committee) other.1 (hits other.0 committee) pair (counts one inside) (counts other inside') seat;
       }
