@@ -28,8 +28,8 @@ told_of_a_reader : told_reader (record { remaining = 8 ∷ []; has_failed = fals
     ≡ record { remaining = Some (8 ∷ []); has_failed = false; given = 1 }
 told_of_a_reader = refl
 
--- the same writer, once it has taken two bytes and failed
+-- the same writer, once it has taken two bytes, failed and been flushed
 told_of_a_writer :
-    told_writer (record { taken = 7 ∷ 8 ∷ []; flushes = 0; has_failed = true; fault = Sound; piece = 5 })
-    ≡ record { contents = Some (7 ∷ 8 ∷ []); has_failed = true }
+    told_writer (record { taken = 7 ∷ 8 ∷ []; flushes = 1; has_failed = true; fault = Sound; piece = 5 })
+    ≡ record { contents = Some (7 ∷ 8 ∷ []); has_failed = true; flushes = 1 }
 told_of_a_writer = refl

@@ -10,4 +10,5 @@ told_reader reader =
 
 -- the state of a writer that keeps what it took
 abbrev pub told_writer : WriterView → WriterState
-told_writer writer = record { contents = Some writer.taken; has_failed = writer.has_failed }
+told_writer writer =
+    record { contents = Some writer.taken; has_failed = writer.has_failed; flushes = writer.flushes }

@@ -127,9 +127,12 @@ pub struct Recorder {
     fault: Fault,
     flushes: u64,
     has_failed: bool,
+    /// A byte for each flush.
+    flushed: Trace,
 }
 
 impl Model for Recorder {
+    ghost use Rattle.std.specs.Prelude.{◌≡◌, ◌-◌, ◌^◌, length, min};
     ghost use Rattle.std.specs.Vec.{vec_items};
     ghost use Rattle.test_devices.specs.Views.{WriterView};
 
@@ -137,11 +140,13 @@ impl Model for Recorder {
 
     ghost view = { λ writer. record {
       taken = vec_items writer.taken;
-      flushes = writer.flushes;
+      flushes = length writer.flushed.bytes;
       has_failed = writer.has_failed;
       fault = writer.fault;
       piece = writer.piece;
     } };
+
+    ghost invariant = { λ writer. writer.flushes ≡ min (length writer.flushed.bytes) (2 ^ 64 - 1) };
 }
 
 impl Recorder {
@@ -155,6 +160,7 @@ impl Recorder {
             fault,
             flushes: 0,
             has_failed: false,
+            flushed: Trace::new(),
         }
     }
 
@@ -167,7 +173,7 @@ impl Recorder {
 
     /// The number of flushes. The count stays at its maximum.
     pub fn flushes(&self) -> u64
-        ensures { result ≡ self.now.flushes }
+        ensures { result ≡ min self.now.flushes (2 ^ 64 - 1) }
     {
         self.flushes
     }
@@ -196,11 +202,13 @@ impl Device for Recorder {
 impl Sink for Recorder {
     ghost contents = { λ writer. Some writer.taken };
 
+    ghost flushes = { λ writer. writer.flushes };
+
     fn write(&mut self, buf: &[u8]) -> io::Result<usize>
         ensures bound { WritesAtMost result buf.now }
         ensures bytes { WriteAppends (Some self.old.taken) (Some self.new.taken) result buf.now }
         ensures failed { self.new.has_failed ≡ (self.old.has_failed || is_failed_write result buf.now) }
-        ensures count { self.new.flushes ≡ self.old.flushes }
+        ensures flushes { self.new.flushes ≡ self.old.flushes }
         ensures due { IsDue self.old.fault (length self.old.taken) → buf.now ≢ []
             → is_failed_write result buf.now ≡ true }
         ensures error { is_err result ≡ (is_failed_write result buf.now && not (is_zero_after self.old.fault)) }
@@ -226,13 +234,14 @@ impl Sink for Recorder {
 
     fn flush(&mut self) -> io::Result<()>
         ensures bytes { self.new.taken ≡ self.old.taken }
-        ensures count { self.new.flushes ≡ min (self.old.flushes + 1) (2 ^ 64 - 1) }
+        ensures flushes { self.new.flushes ≡ self.old.flushes + 1 }
         ensures due { IsErr result ↔ (self.old.fault ≡ Fault.AtFlush) }
         ensures failed { self.new.has_failed ≡ (self.old.has_failed || is_err result) }
         ensures fault { self.new.fault ≡ (if is_err result then Fault.Sound else self.old.fault) }
         ensures same_piece { self.new.piece ≡ self.old.piece }
     {
         self.flushes = self.flushes.saturating_add(1);
+        self.flushed.add(b"\n");
         if self.fault != Fault::AtFlush {
             return Ok(());
         }

@@ -14,7 +14,7 @@ use Rattle.text_output.specs.Device.{is_failed_write, bytes_given, AppendsBeginn
 use Rattle.text_output.specs.Names.{beside, called, candidates_text, joined, name_or_number, names_text, naming, seated_parties}
 use Rattle.text_output.specs.Steps.Names.{IsName, listed_name, listed_names, names_in, names_of}
 use Rattle.text_output.specs.Steps.Numbers.{following_text}
-use Rattle.text_output.specs.Steps.Printing.{Prints, Sends}
+use Rattle.text_output.specs.Steps.Printing.{Calls, Prints, PrintsAll, Sends, calls_of}
 use Rattle.text_output.specs.Text.{line, numbers_text}
 use Rattle.text_output.specs.declared.names.NameSource.TheVariants.{Unwanted, Numbers, Of}
 use Rattle.text_output.specs.declared.printing.Printer.{Printer}
@@ -176,20 +176,20 @@ given_by_reads = (refl, refl)
 two_of_three : AppendsBeginning (Some (7 ∷ [])) (Some (7 ∷ 1 ∷ 2 ∷ [])) (1 ∷ 2 ∷ 3 ∷ [])
 two_of_three = (1 ∷ 2 ∷ [], 3 ∷ [], refl, refl)
 
--- what is told of a device that is a pair or a triple
+-- what is told of a device that is a triple
 states : (reader_state (λ (r : Option (List ℕ) × Bool × ℕ). r.0) (λ r. r.1) (λ r. r.2) (None, true, 5) ≡ record { remaining = None; has_failed = true; given = 5 })
-    × (writer_state (λ (w : List ℕ × Bool). Some w.0) (λ w. w.1) (1 ∷ [], true) ≡ record { contents = Some (1 ∷ []); has_failed = true })
+    × (writer_state (λ (w : List ℕ × Bool × ℕ). Some w.0) (λ w. w.1) (λ w. w.2) (1 ∷ [], true, 2) ≡ record { contents = Some (1 ∷ []); has_failed = true; flushes = 2 })
 states = (refl, refl)
 
--- a writer as the bytes that it took, and whether a call on it has failed
+-- a writer as the bytes that it took, whether a call on it has failed, and how often it was flushed
 abbrev Taken : Type 0
-Taken = List ℕ × Bool
+Taken = List ℕ × Bool × ℕ
 
 abbrev taken : Taken → Option (List ℕ)
 taken writer = Some writer.0
 
-abbrev is_broken : Taken → Bool
-is_broken writer = writer.1
+abbrev calls : Taken → Calls
+calls writer = calls_of (λ (w : Taken). w.1) (λ w. w.2) writer
 
 -- a printer over such a writer, with what waits
 abbrev printer : MutBor Taken → Taken → List ℕ → Printer Taken
@@ -197,7 +197,7 @@ printer out writer waiting = record { out = record out { now = writer }; pending
 
 -- 3 is printed after 1 and 2, of which 1 is sent
 printed : (out : MutBor Taken)
-    → Prints taken is_broken (printer out ([], false) (1 ∷ 2 ∷ [])) (printer out (1 ∷ [], false) (2 ∷ 3 ∷ [])) true (3 ∷ [])
+    → Prints taken calls (printer out ([], false, 0) (1 ∷ 2 ∷ [])) (printer out (1 ∷ [], false, 0) (2 ∷ 3 ∷ [])) true (3 ∷ [])
 printed out = record {
   same_writer = refl;
   passed = record {
@@ -210,8 +210,23 @@ printed out = record {
   };
 }
 
+-- 1 and 2 wait; they are sent, and the writer is flushed
+printed_all : (out : MutBor Taken)
+    → PrintsAll taken calls (printer out ([], false, 0) (1 ∷ 2 ∷ [])) (printer out (1 ∷ 2 ∷ [], false, 1) []) true []
+printed_all out = record {
+  same_writer = refl;
+  passed = record {
+    sent = 1 ∷ 2 ∷ [];
+    rest = [];
+    order = refl;
+    took = refl;
+    whole = λ ok. (refl, refl);
+    broken = λ ok. absurd (both_ways true ok refl);
+  };
+}
+
 -- a write of 1, 2 and 3 breaks off after 1
-sent_in_part : Sends taken is_broken ([], false) (1 ∷ [], true) false (1 ∷ 2 ∷ 3 ∷ [])
+sent_in_part : Sends taken calls ([], false, 0) (1 ∷ [], true, 0) false (1 ∷ 2 ∷ 3 ∷ [])
 sent_in_part = record {
   sent = 1 ∷ [];
   rest = 2 ∷ 3 ∷ [];

@@ -5,7 +5,7 @@ use Rattle.std.specs.Io.KnownBytes.{Appends, Keeps}
 use Rattle.std.proofs.KnownBytes.{Appends-nil, Appends-trans}
 use Rattle.std.proofs.Math.Seq.{take-add, drop-cons}
 use Rattle.std.proofs.lemmas.List.{take_rest}
-use Rattle.text_output.specs.Steps.Printing.{Outlet, Passes, Prints, Sends}
+use Rattle.text_output.specs.Steps.Printing.{Calls, Outlet, Passes, Prints, PrintsAll, Sends, SendsAll, flushed, flushed_once, outlet}
 use Rattle.text_output.specs.declared.printing.Printer.{Printer}
 
 -- a text after a text that was printed
@@ -35,6 +35,28 @@ Passes-broken {a} {b} {x} y broken = record {
   broken = broken.broken;
 }
 
+-- the same, as if there had been a flush before
+pub Passes-flushed : {before after : Outlet} {text : List ℕ} → Passes before after true text → Passes (flushed before) (flushed after) true text
+Passes-flushed h = record {
+  sent = h.sent;
+  rest = h.rest;
+  order = h.order;
+  took = h.took;
+  whole = λ e. ((h.whole e).0, ap flushed_once (h.whole e).1);
+  broken = λ e. absurd (true≢false e);
+}
+
+-- or if it broke off
+pub Passes-cut : {before after : Outlet} {text : List ℕ} → Passes before after false text → Passes (flushed before) after false text
+Passes-cut h = record {
+  sent = h.sent;
+  rest = h.rest;
+  order = h.order;
+  took = h.took;
+  whole = λ e. absurd (true≢false (sym e));
+  broken = h.broken;
+}
+
 -- no text
 Passes-nothing : (a : Outlet) → Passes a a true []
 Passes-nothing a = record {
@@ -51,25 +73,29 @@ pub is_ok-err : {V E : Type 0} (r : Result V E) → IsErr r → is_ok r ≡ fals
 is_ok-err (Ok v) bad = absurd (true≢false (sym bad))
 is_ok-err (Err e) bad = refl
 
-module _ {W : Type 0} {contents : W → Option (List ℕ)} {has_failed : W → Bool} where
+-- what is known of calls is these two
+pub same-calls : (one other : Calls) → one.has_failed ≡ other.has_failed → one.flushes ≡ other.flushes → one ≡ other
+same-calls one other failed flushes = ap (λ b. record { has_failed = b; flushes = one.flushes }) failed ∙ ap (λ n. record { has_failed = other.has_failed; flushes = n }) flushes
+
+module _ {W : Type 0} {contents : W → Option (List ℕ)} {calls : W → Calls} where
   -- a text after a text that was printed
-  pub Prints-then : {a b c : Printer W} {x y : List ℕ} {ok : Bool} → Prints contents has_failed a b true x
-      → Prints contents has_failed b c ok y → Prints contents has_failed a c ok (x ++ y)
+  pub Prints-then : {a b c : Printer W} {x y : List ℕ} {ok : Bool} → Prints contents calls a b true x
+      → Prints contents calls b c ok y → Prints contents calls a c ok (x ++ y)
   Prints-then first second =
       record { same_writer = second.same_writer ∙ first.same_writer; passed = Passes-then first.passed second.passed }
 
   -- what broke off is a beginning of whatever would have come
-  pub Prints-broken : {a b : Printer W} {x : List ℕ} (y : List ℕ) → Prints contents has_failed a b false x
-      → Prints contents has_failed a b false (x ++ y)
+  pub Prints-broken : {a b : Printer W} {x : List ℕ} (y : List ℕ) → Prints contents calls a b false x
+      → Prints contents calls a b false (x ++ y)
   Prints-broken y broken = record { same_writer = broken.same_writer; passed = Passes-broken y broken.passed }
 
   -- no text
-  pub Prints-nothing : (a : Printer W) → Prints contents has_failed a a true []
+  pub Prints-nothing : (a : Printer W) → Prints contents calls a a true []
   Prints-nothing a = record { same_writer = refl; passed = Passes-nothing _ }
 
   -- a text that waits
   pub Prints-pending : {a b : Printer W} (x : List ℕ) → b.out ≡ a.out → b.pending.items ≡ a.pending.items ++ x
-      → Prints contents has_failed a b true x
+      → Prints contents calls a b true x
   Prints-pending {a} {b} x kept same = record {
     same_writer = ap (λ out. out.ghost_name) kept;
     passed = record {
@@ -77,51 +103,51 @@ module _ {W : Type 0} {contents : W → Option (List ℕ)} {has_failed : W → B
       rest = a.pending.items ++ x;
       order = refl;
       took = subst (λ out. Appends (contents a.out.now) (contents out.now) []) (sym kept) (Appends-nil (contents a.out.now));
-      whole = λ e. (sym same, ap (λ out. has_failed out.now) kept);
+      whole = λ e. (sym same, ap (λ out. calls out.now) kept);
       broken = λ e. absurd (true≢false e);
     };
   }
 
   -- the text of a call that gave `Ok`
   pub Prints-ok : {a b : Printer W} {x : List ℕ} {V E : Type 0} (r : Result V E) (v : V) → r ≡ Ok v
-      → Prints contents has_failed a b (is_ok r) x → Prints contents has_failed a b true x
-  Prints-ok {a} {b} {x} r v e h = subst (λ s. Prints contents has_failed a b (is_ok s) x) e h
+      → Prints contents calls a b (is_ok r) x → Prints contents calls a b true x
+  Prints-ok {a} {b} {x} r v e h = subst (λ s. Prints contents calls a b (is_ok s) x) e h
 
   -- the same text in other words
-  pub Prints-as : {a b : Printer W} {x y : List ℕ} {ok : Bool} → x ≡ y → Prints contents has_failed a b ok x → Prints contents has_failed a b ok y
-  Prints-as {a} {b} {x} {y} {ok} same h = subst (Prints contents has_failed a b ok) same h
+  pub Prints-as : {a b : Printer W} {x y : List ℕ} {ok : Bool} → x ≡ y → Prints contents calls a b ok x → Prints contents calls a b ok y
+  Prints-as {a} {b} {x} {y} {ok} same h = subst (Prints contents calls a b ok) same h
 
   -- what was printed by a call that gave `Ok`, and what was printed after it
   pub goes_on : {a b c : Printer W} {x y z : List ℕ} {ok : Bool} {V E : Type 0} (r : Result V E) (v : V) → r ≡ Ok v → z ≡ x ++ y
-      → Prints contents has_failed a b (is_ok r) x → Prints contents has_failed b c ok y → Prints contents has_failed a c ok z
+      → Prints contents calls a b (is_ok r) x → Prints contents calls b c ok y → Prints contents calls a c ok z
   goes_on r v e same first second = Prints-as (sym same) (Prints-then (Prints-ok r v e first) second)
 
   -- where a call gave `Err`, and the function passes that on
   pub breaks_off : {a b : Printer W} {x z : List ℕ} {V U E F : Type 0} (y : List ℕ) (r : Result V E) (e : E) (q : Result U F) → r ≡ Err e → IsErr q
-      → z ≡ x ++ y → Prints contents has_failed a b (is_ok r) x → Prints contents has_failed a b (is_ok q) z
+      → z ≡ x ++ y → Prints contents calls a b (is_ok r) x → Prints contents calls a b (is_ok q) z
   breaks_off y r e (Ok w) was bad same first = absurd (true≢false (sym bad))
   breaks_off {a} {b} {x} {z} y r e (Err f) was bad same first =
-      let broken : Prints contents has_failed a b false x = subst (λ s. Prints contents has_failed a b (is_ok s) x) was first in
+      let broken : Prints contents calls a b false x = subst (λ s. Prints contents calls a b (is_ok s) x) was first in
       Prints-as (sym same) (Prints-broken y broken)
 
   -- the same after a text that was printed before
   pub goes_on_after : {a b c : Printer W} {done x : List ℕ} {V E : Type 0} (r : Result V E) (v : V) → r ≡ Ok v
-      → Prints contents has_failed a b true done → Prints contents has_failed b c (is_ok r) x → Prints contents has_failed a c true (done ++ x)
+      → Prints contents calls a b true done → Prints contents calls b c (is_ok r) x → Prints contents calls a c true (done ++ x)
   goes_on_after r v e first second = Prints-then first (Prints-ok r v e second)
 
   pub breaks_off_after : {a b c : Printer W} {done x z : List ℕ} {V U E F : Type 0} (rest : List ℕ) (r : Result V E) (e : E) (q : Result U F) → r ≡ Err e → IsErr q
-      → done ++ (x ++ rest) ≡ z → Prints contents has_failed a b true done → Prints contents has_failed b c (is_ok r) x → Prints contents has_failed a c (is_ok q) z
+      → done ++ (x ++ rest) ≡ z → Prints contents calls a b true done → Prints contents calls b c (is_ok r) x → Prints contents calls a c (is_ok q) z
   breaks_off_after {a} {b} {c} {done} {x} {z} rest r e q was bad same first second =
       breaks_off rest r e q was bad (sym same ∙ sym (append_assoc done x rest)) (Prints-then first second)
 
   -- a text after what was printed before, as the last
-  pub Prints-last : {a b c : Printer W} {x y z : List ℕ} {ok : Bool} → z ≡ x ++ y → Prints contents has_failed a b true x
-      → Prints contents has_failed b c ok y → Prints contents has_failed a c ok z
+  pub Prints-last : {a b c : Printer W} {x y z : List ℕ} {ok : Bool} → z ≡ x ++ y → Prints contents calls a b true x
+      → Prints contents calls b c ok y → Prints contents calls a c ok z
   Prints-last same first second = Prints-as (sym same) (Prints-then first second)
 
   -- nothing waits, and a text was sent
   pub Prints-straight : {a b : Printer W} {x : List ℕ} {ok : Bool} → b.out.ghost_name ≡ a.out.ghost_name → a.pending.items ≡ [] → b.pending.items ≡ a.pending.items
-      → Sends contents has_failed a.out.now b.out.now ok x → Prints contents has_failed a b ok x
+      → Sends contents calls a.out.now b.out.now ok x → Prints contents calls a b ok x
   Prints-straight {a} {b} {x} {ok} same none kept h = record {
     same_writer = same;
     passed = record {
@@ -136,38 +162,89 @@ module _ {W : Type 0} {contents : W → Option (List ℕ)} {has_failed : W → B
 
   -- what a printer printed from its first byte to its last, its writer was sent
   pub Sends-by : {a b : Printer W} {before after : W} {x : List ℕ} {ok : Bool} → a.out.now ≡ before → a.pending.items ≡ [] → (ok ≡ true → b.pending.items ≡ [])
-      → b.out.now ≡ after → Prints contents has_failed a b ok x → Sends contents has_failed before after ok x
+      → b.out.now ≡ after → Prints contents calls a b ok x → Sends contents calls before after ok x
   Sends-by {a} {b} {before} {after} {x} {ok} first none done last h = record {
     sent = h.passed.sent;
     rest = h.passed.rest;
     order = h.passed.order ∙ ap (λ p. p ++ x) none;
     took = subst (λ w. Appends (contents before) (contents w) h.passed.sent) last
         (subst (λ w. Appends (contents w) (contents b.out.now) h.passed.sent) first h.passed.took);
-    whole = λ e. ((h.passed.whole e).0 ∙ done e, ap has_failed (sym last) ∙ (h.passed.whole e).1 ∙ ap has_failed first);
-    broken = λ e. ap has_failed (sym last) ∙ h.passed.broken e;
+    whole = λ e. ((h.passed.whole e).0 ∙ done e, ap calls (sym last) ∙ (h.passed.whole e).1 ∙ ap calls first);
+    broken = λ e. ap (λ w. (calls w).has_failed) (sym last) ∙ h.passed.broken e;
   }
 
   -- the same of what it printed before a call that failed
   pub Sends-cut : {a b : Printer W} {before after : W} {x : List ℕ} {V E : Type 0} → a.out.now ≡ before → a.pending.items ≡ [] → (q : Result V E) → IsErr q
-      → b.out.now ≡ after → Prints contents has_failed a b (is_ok q) x → Sends contents has_failed before after (is_ok q) x
+      → b.out.now ≡ after → Prints contents calls a b (is_ok q) x → Sends contents calls before after (is_ok q) x
   Sends-cut first none q bad last h = Sends-by first none (λ e. absurd (true≢false (sym e ∙ is_ok-err q bad))) last h
+
+  -- ---- and flushes
+
+  -- a text that is not printed whole is followed by no flush
+  pub PrintsAll-broken : {a b : Printer W} {x : List ℕ} {V E : Type 0} (q : Result V E) → IsErr q → Prints contents calls a b (is_ok q) x → PrintsAll contents calls a b (is_ok q) x
+  PrintsAll-broken q bad h = record {
+    same_writer = h.same_writer;
+    passed = record {
+      sent = h.passed.sent;
+      rest = h.passed.rest;
+      order = h.passed.order;
+      took = h.passed.took;
+      whole = λ e. absurd (true≢false (sym e ∙ is_ok-err q bad));
+      broken = h.passed.broken;
+    };
+  }
+
+  -- a text, and the last one with the flush
+  pub PrintsAll-last : {a b c : Printer W} {x y z : List ℕ} {ok : Bool} → z ≡ x ++ y → Prints contents calls a b true x
+      → PrintsAll contents calls b c ok y → PrintsAll contents calls a c ok z
+  PrintsAll-last {a} {b} {c} {x} {y} {z} {ok} same first last =
+      subst (PrintsAll contents calls a c ok) (sym same) (record {
+        same_writer = last.same_writer ∙ first.same_writer;
+        passed = Passes-then {a = flushed (outlet contents calls a.out.now a.pending.items)} {b = flushed (outlet contents calls b.out.now b.pending.items)} (Passes-flushed first.passed) last.passed;
+      })
+
+  -- a text that was printed, and a last one with the flush
+  pub goes_on_all : {a b c : Printer W} {x y z : List ℕ} {ok : Bool} {V E : Type 0} (r : Result V E) (v : V) → r ≡ Ok v → z ≡ x ++ y
+      → Prints contents calls a b (is_ok r) x → PrintsAll contents calls b c ok y → PrintsAll contents calls a c ok z
+  goes_on_all r v was same first last = PrintsAll-last same (Prints-ok r v was first) last
+
+  -- what a printer printed from its first byte to its last and flushed, its writer was sent and flushed
+  pub SendsAll-by : {a b : Printer W} {before after : W} {x : List ℕ} {ok : Bool} → a.out.now ≡ before → a.pending.items ≡ [] → (ok ≡ true → b.pending.items ≡ [])
+      → b.out.now ≡ after → PrintsAll contents calls a b ok x → SendsAll contents calls before after ok x
+  SendsAll-by {a} {b} {before} {after} {x} {ok} first none done last h = record {
+    sent = h.passed.sent;
+    rest = h.passed.rest;
+    order = h.passed.order ∙ ap (λ p. p ++ x) none;
+    took = subst (λ w. Appends (contents before) (contents w) h.passed.sent) last
+        (subst (λ w. Appends (contents w) (contents b.out.now) h.passed.sent) first h.passed.took);
+    whole = λ e. (
+      (h.passed.whole e).0 ∙ done e,
+      ap calls (sym last) ∙ (h.passed.whole e).1 ∙ ap (λ w. flushed_once (calls w)) first,
+    );
+    broken = λ e. ap (λ w. (calls w).has_failed) (sym last) ∙ h.passed.broken e;
+  }
+
+  -- the same of what it printed before a call that failed
+  pub SendsAll-cut : {a b : Printer W} {before after : W} {x : List ℕ} {V E : Type 0} → a.out.now ≡ before → a.pending.items ≡ [] → (q : Result V E) → IsErr q
+      → b.out.now ≡ after → Prints contents calls a b (is_ok q) x → SendsAll contents calls before after (is_ok q) x
+  SendsAll-cut first none q bad last h = SendsAll-by first none (λ e. absurd (true≢false (sym e ∙ is_ok-err q bad))) last (PrintsAll-broken q bad h)
 
 -- ---- a loop that prints
 
-module _ {W : Type 0} (contents : W → Option (List ℕ)) (has_failed : W → Bool) where
+module _ {W : Type 0} (contents : W → Option (List ℕ)) (calls : W → Calls) where
   -- a beginning of the whole text was printed, and this is left of it
   pub record Underway (before now : Printer W) (left whole : List ℕ) : Type 0 where
     pub done : List ℕ
-    pub printed : Prints contents has_failed before now true done
+    pub printed : Prints contents calls before now true done
     pub parts : done ++ left ≡ whole
 
-module _ {W : Type 0} {contents : W → Option (List ℕ)} {has_failed : W → Bool} where
-  pub starts : (a : Printer W) {whole left : List ℕ} → left ≡ whole → Underway contents has_failed a a left whole
+module _ {W : Type 0} {contents : W → Option (List ℕ)} {calls : W → Calls} where
+  pub starts : (a : Printer W) {whole left : List ℕ} → left ≡ whole → Underway contents calls a a left whole
   starts a same = record { done = []; printed = Prints-nothing a; parts = same }
 
   -- a text more
-  pub next : {a b c : Printer W} {left rest x whole : List ℕ} {V E : Type 0} → Underway contents has_failed a b left whole → left ≡ x ++ rest → (r : Result V E) (v : V) → r ≡ Ok v
-      → Prints contents has_failed b c (is_ok r) x → Underway contents has_failed a c rest whole
+  pub next : {a b c : Printer W} {left rest x whole : List ℕ} {V E : Type 0} → Underway contents calls a b left whole → left ≡ x ++ rest → (r : Result V E) (v : V) → r ≡ Ok v
+      → Prints contents calls b c (is_ok r) x → Underway contents calls a c rest whole
   next {rest = rest} {x = x} so_far parts r v was here = record {
     done = so_far.done ++ x;
     printed = goes_on_after r v was so_far.printed here;
@@ -175,16 +252,16 @@ module _ {W : Type 0} {contents : W → Option (List ℕ)} {has_failed : W → B
   }
 
   -- a text that was not printed whole
-  pub stops : {a b c : Printer W} {left x whole : List ℕ} {V U E F : Type 0} (rest : List ℕ) → Underway contents has_failed a b left whole → left ≡ x ++ rest → (r : Result V E) (e : E) (q : Result U F)
-      → r ≡ Err e → IsErr q → Prints contents has_failed b c (is_ok r) x → Prints contents has_failed a c (is_ok q) whole
+  pub stops : {a b c : Printer W} {left x whole : List ℕ} {V U E F : Type 0} (rest : List ℕ) → Underway contents calls a b left whole → left ≡ x ++ rest → (r : Result V E) (e : E) (q : Result U F)
+      → r ≡ Err e → IsErr q → Prints contents calls b c (is_ok r) x → Prints contents calls a c (is_ok q) whole
   stops rest so_far parts r e q was bad here = breaks_off_after rest r e q was bad (ap (λ l. so_far.done ++ l) (sym parts) ∙ so_far.parts) so_far.printed here
 
   -- what is left, in other words
-  pub passes_on : {a b : Printer W} {left other whole : List ℕ} → left ≡ other → Underway contents has_failed a b left whole → Underway contents has_failed a b other whole
-  passes_on {a} {b} {left} {other} {whole} same h = subst (λ l. Underway contents has_failed a b l whole) same h
+  pub passes_on : {a b : Printer W} {left other whole : List ℕ} → left ≡ other → Underway contents calls a b left whole → Underway contents calls a b other whole
+  passes_on {a} {b} {left} {other} {whole} same h = subst (λ l. Underway contents calls a b l whole) same h
 
   -- the last text
-  pub ends_with : {a b c : Printer W} {left whole : List ℕ} {ok : Bool} → Underway contents has_failed a b left whole → Prints contents has_failed b c ok left → Prints contents has_failed a c ok whole
+  pub ends_with : {a b c : Printer W} {left whole : List ℕ} {ok : Bool} → Underway contents calls a b left whole → Prints contents calls b c ok left → Prints contents calls a c ok whole
   ends_with so_far last = Prints-last (sym so_far.parts) so_far.printed last
 
 -- ---- pieces
@@ -199,8 +276,8 @@ flat_map-drop f xs i d within = ap (flat_map f) (drop-cons xs i d within) ∙ ap
 -- ---- the loop that writes
 
 -- a writer alone, of which no byte waits
-abbrev pub alone : Option (List ℕ) → Bool → Outlet
-alone taken has_failed = record { taken = taken; waiting = []; has_failed = has_failed }
+abbrev pub alone : Option (List ℕ) → Calls → Outlet
+alone taken calls = record { taken = taken; waiting = []; calls = calls }
 
 pub took-more : (a b c : Option (List ℕ)) (xs : List ℕ) (s n : ℕ) → Appends a b (take s xs) → Appends b c (take n (take (length xs - s) (drop s xs))) → Appends a c (take (s + n) xs)
 took-more a b c xs s n first second =
@@ -230,7 +307,7 @@ Appends-none a b n xs none h =
     subst (Appends a b) same h
 
 -- the loop broke off after the first s bytes
-pub Passes-part : (a b c : Option (List ℕ)) (xs : List ℕ) (s : ℕ) (before after : Bool) → Appends a b (take s xs) → Appends b c [] → after ≡ true → Passes (alone a before) (alone c after) false xs
+pub Passes-part : (a b c : Option (List ℕ)) (xs : List ℕ) (s : ℕ) (before after : Calls) → Appends a b (take s xs) → Appends b c [] → after.has_failed ≡ true → Passes (alone a before) (alone c after) false xs
 Passes-part a b c xs s before after first second failed = record {
   sent = take s xs;
   rest = drop s xs;

@@ -19,18 +19,21 @@ pub record ReaderState : Type 0 where
   pub has_failed : Bool
   pub given : ℕ
 
--- what is known of a writer: the bytes that it took, if they are known, and whether a call has failed
+-- what is known of a writer: the bytes that it took, if they are known, whether a call has failed, and how often it was
+-- flushed
 pub record WriterState : Type 0 where
   pub contents : Option (List ℕ)
   pub has_failed : Bool
+  pub flushes : ℕ
 
 -- the state of a device, by what its trait reports
 abbrev pub reader_state : {R : Type 0} → (R → Option (List ℕ)) → (R → Bool) → (R → ℕ) → R → ReaderState
 reader_state remaining has_failed given reader =
     record { remaining = remaining reader; has_failed = has_failed reader; given = given reader }
 
-abbrev pub writer_state : {W : Type 0} → (W → Option (List ℕ)) → (W → Bool) → W → WriterState
-writer_state contents has_failed writer = record { contents = contents writer; has_failed = has_failed writer }
+abbrev pub writer_state : {W : Type 0} → (W → Option (List ℕ)) → (W → Bool) → (W → ℕ) → W → WriterState
+writer_state contents has_failed flushes writer =
+    record { contents = contents writer; has_failed = has_failed writer; flushes = flushes writer }
 
 -- known bytes grow by a beginning of the text
 abbrev pub AppendsBeginning : Option (List ℕ) → Option (List ℕ) → List ℕ → Type 0

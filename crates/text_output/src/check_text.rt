@@ -1,7 +1,7 @@
 //! The text of a check: that the property holds, or the report of a violation.
 ghost use Rattle.std.specs.Prelude.{◌++◌, is_ok};
 ghost use Rattle.ballot_base.specs.Ballots.{voter_count};
-ghost use Rattle.text_output.specs.Steps.Printing.{Prints, Sends};
+ghost use Rattle.text_output.specs.Steps.Printing.{Prints, SendsAll, calls_of};
 ghost use Rattle.text_output.specs.Names.{candidates_text};
 ghost use Rattle.text_output.specs.Text.{line};
 ghost use Rattle.text_output.specs.CheckText.{holds_text, within_text, row_text, group_text};
@@ -17,7 +17,7 @@ use std::alloc::Allocator;
 
 /// Writes that the committee has the property, and flushes the writer.
 pub fn write_holds<W: Sink>(out: &mut W) -> Result<(), WriteFailed>
-    ensures { Sends W.contents W.has_failed out.old out.new (is_ok result) holds_text }
+    ensures { SendsAll W.contents (calls_of W.has_failed W.flushes) out.old out.new (is_ok result) holds_text }
 {
     let mut printer = Printer::new(out);
     printer.print(b"holds\n")?;
@@ -43,7 +43,7 @@ impl<A: Allocator + Copy> Report<'_, A> {
         words: &[u8],
         candidates: CandSet,
     ) -> Result<(), WriteFailed>
-        ensures { Prints W.contents W.has_failed printer.old printer.new (is_ok result)
+        ensures { Prints W.contents (calls_of W.has_failed W.flushes) printer.old printer.new (is_ok result)
             (line (words.now ++ candidates_text self.now.names candidates)) }
     {
         printer.print(words)?;
@@ -52,7 +52,7 @@ impl<A: Allocator + Copy> Report<'_, A> {
     }
 
     fn print_level<W: Sink>(&self, printer: &mut Printer<'_, W>) -> Result<(), WriteFailed>
-        ensures { Prints W.contents W.has_failed printer.old printer.new (is_ok result)
+        ensures { Prints W.contents (calls_of W.has_failed W.flushes) printer.old printer.new (is_ok result)
             (level_text self.now.violation.now.property self.now.violation.now.level) }
     {
         let mut digits = Buffer::new();
@@ -68,7 +68,7 @@ impl<A: Allocator + Copy> Report<'_, A> {
 
     /// Prints the line that only a report of proportional justified representation has.
     fn print_within<W: Sink>(&self, printer: &mut Printer<'_, W>) -> Result<(), WriteFailed>
-        ensures { Prints W.contents W.has_failed printer.old printer.new (is_ok result)
+        ensures { Prints W.contents (calls_of W.has_failed W.flushes) printer.old printer.new (is_ok result)
             (within_text self.now.names self.now.violation.now.property self.now.violation.now.within) }
     {
         let within = self.violation.within;
@@ -81,7 +81,7 @@ impl<A: Allocator + Copy> Report<'_, A> {
 
     /// Prints the lines before the voters.
     fn print_claim<W: Sink>(&self, printer: &mut Printer<'_, W>) -> Result<(), WriteFailed>
-        ensures { Prints W.contents W.has_failed printer.old printer.new (is_ok result)
+        ensures { Prints W.contents (calls_of W.has_failed W.flushes) printer.old printer.new (is_ok result)
             (claim_text self.now.names self.now.violation.now) }
     {
         self.print_level(printer)?;
@@ -91,7 +91,7 @@ impl<A: Allocator + Copy> Report<'_, A> {
 
     /// Prints the line with the number of voters in the group, and of all voters.
     fn print_voters<W: Sink>(&self, printer: &mut Printer<'_, W>) -> Result<(), WriteFailed>
-        ensures { Prints W.contents W.has_failed printer.old printer.new (is_ok result)
+        ensures { Prints W.contents (calls_of W.has_failed W.flushes) printer.old printer.new (is_ok result)
             (voters_text self.now.violation.now.voters (voter_count self.now.profile.now.rows)) }
     {
         let mut voters_digits = Buffer::new();
@@ -113,7 +113,7 @@ impl<A: Allocator + Copy> Report<'_, A> {
         ballot: CandSet,
         count: u64,
     ) -> Result<(), WriteFailed>
-        ensures { Prints W.contents W.has_failed printer.old printer.new (is_ok result)
+        ensures { Prints W.contents (calls_of W.has_failed W.flushes) printer.old printer.new (is_ok result)
             (row_text self.now.names (ballot, count)) }
     {
         let mut digits = Buffer::new();
@@ -122,7 +122,7 @@ impl<A: Allocator + Copy> Report<'_, A> {
     }
 
     fn print_group<W: Sink>(&self, printer: &mut Printer<'_, W>) -> Result<(), WriteFailed>
-        ensures { Prints W.contents W.has_failed printer.old printer.new (is_ok result)
+        ensures { Prints W.contents (calls_of W.has_failed W.flushes) printer.old printer.new (is_ok result)
             (group_text self.now.names self.now.violation.now self.now.profile.now.rows) }
     {
         for (ballot, count) in self.profile.ballots() {
@@ -136,7 +136,7 @@ impl<A: Allocator + Copy> Report<'_, A> {
 
     /// Writes the report, and flushes the writer.
     pub fn write<W: Sink>(&self, out: &mut W) -> Result<(), WriteFailed>
-        ensures { Sends W.contents W.has_failed out.old out.new (is_ok result)
+        ensures { SendsAll W.contents (calls_of W.has_failed W.flushes) out.old out.new (is_ok result)
             (violation_text self.now.names self.now.violation.now self.now.profile.now) }
     {
         let mut printer = Printer::new(out);

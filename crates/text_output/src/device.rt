@@ -40,46 +40,54 @@ pub trait Sink: Device {
     // The bytes that were taken, if they are known.
     ghost contents: { Self → Option (List ℕ) };
 
+    // How many flushes there were so far.
+    ghost flushes: { Self → ℕ };
+
     /// Takes bytes from the front of `buf`, and returns their number. An error of any kind is a failed call. So is a
     /// count of 0 for one or more bytes.
     fn write(&mut self, buf: &[u8]) -> io::Result<usize>
         ensures bound { WritesAtMost result buf.now }
         ensures bytes { WriteAppends (contents self.old) (contents self.new) result buf.now }
+        ensures flushes { flushes self.new ≡ flushes self.old }
         ensures failed { Self.has_failed self.new ≡ (Self.has_failed self.old || is_failed_write result buf.now) };
 
     /// Hands on what was taken. An error is a failed call.
     fn flush(&mut self) -> io::Result<()>
         ensures bytes { Keeps (contents self.old) (contents self.new) }
+        ensures flushes { flushes self.new ≡ flushes self.old + 1 }
         ensures failed { Self.has_failed self.new ≡ (Self.has_failed self.old || is_err result) };
 }
 
-/// A reader or a writer of `std` as a device. Contracts see what it holds, whether a call has failed, and how many
-/// bytes its reads have given.
+/// A reader or a writer of `std` as a device. Contracts see what it holds, whether a call has failed, how many bytes
+/// its reads have given, and how often it was flushed.
 #[derive(Drop)]
 pub struct Told<T> {
     inner: T,
     has_failed: bool,
     /// The bytes that reads have given.
     given: Trace,
+    /// A byte for each flush.
+    flushes: Trace,
 }
 
 impl<T> Model for Told<T> {
     ghost use Rattle.std.specs.Prelude.{ℕ, Bool, length};
 
-    ghost Value = { T × Bool × ℕ };
+    ghost Value = { T × Bool × ℕ × ℕ };
 
-    ghost view = { λ told. (told.inner, told.has_failed, length told.given.bytes) };
+    ghost view = { λ told. (told.inner, told.has_failed, length told.given.bytes, length told.flushes.bytes) };
 }
 
 impl<T> Told<T> {
     /// A device over this reader or writer. No call on it has failed yet.
     pub fn new(inner: T) -> Told<T>
-        ensures { result ≡ (inner, false, 0) }
+        ensures { result ≡ (inner, false, 0, 0) }
     {
         Told {
             inner,
             has_failed: false,
             given: Trace::new(),
+            flushes: Trace::new(),
         }
     }
 }
@@ -110,6 +118,8 @@ impl<T: Read> Source for Told<T> {
 impl<T: Write> Sink for Told<T> {
     ghost contents = { λ told. T.contents told.0 };
 
+    ghost flushes = { λ told. told.3 };
+
     fn write(&mut self, buf: &[u8]) -> io::Result<usize> {
         let result = self.inner.write(buf);
         let fails = match &result {
@@ -122,6 +132,7 @@ impl<T: Write> Sink for Told<T> {
 
     fn flush(&mut self) -> io::Result<()> {
         let result = self.inner.flush();
+        self.flushes.add(b"\n");
         self.has_failed = self.has_failed || result.is_err();
         result
     }

@@ -2,7 +2,7 @@
 ghost use Rattle.std.specs.Prelude.{◌≡◌, [], is_ok, is_some};
 ghost use Rattle.text_output.specs.Names.{beside, called, candidates_text, names_text, naming, seated_parties};
 ghost use Rattle.text_output.specs.Steps.Names.{IsName, listed_name, names_in};
-ghost use Rattle.text_output.specs.Steps.Printing.{Prints};
+ghost use Rattle.text_output.specs.Steps.Printing.{Prints, calls_of};
 
 use crate::device::Sink;
 use crate::numbers::{print_members, print_number};
@@ -87,7 +87,7 @@ fn print_name<W: Sink, A: Allocator + Copy>(
     names: &Names<'_, A>,
     n: usize,
 ) -> Result<(), WriteFailed>
-    ensures { Prints W.contents W.has_failed printer.old printer.new (is_ok result)
+    ensures { Prints W.contents (calls_of W.has_failed W.flushes) printer.old printer.new (is_ok result)
         (called (names_in names.now) n) }
 {
     match names.name(n) {
@@ -103,7 +103,7 @@ fn print_listed_name<W: Sink, A: Allocator + Copy>(
     n: usize,
     is_first: bool,
 ) -> Result<(), WriteFailed>
-    ensures { Prints W.contents W.has_failed printer.old printer.new (is_ok result)
+    ensures { Prints W.contents (calls_of W.has_failed W.flushes) printer.old printer.new (is_ok result)
         (listed_name is_first (names_in names.now) n) }
 {
     if is_first {
@@ -118,7 +118,7 @@ fn print_member_names<W: Sink, A: Allocator + Copy>(
     names: &Names<'_, A>,
     set: CandSet,
 ) -> Result<(), WriteFailed>
-    ensures { Prints W.contents W.has_failed printer.old printer.new (is_ok result)
+    ensures { Prints W.contents (calls_of W.has_failed W.flushes) printer.old printer.new (is_ok result)
         (names_text (names_in names.now) set) }
 {
     let mut is_first = true;
@@ -134,7 +134,7 @@ fn print_seated_names<W: Sink, A: Allocator + Copy>(
     names: &Names<'_, A>,
     seats: &[u16],
 ) -> Result<(), WriteFailed>
-    ensures { Prints W.contents W.has_failed printer.old printer.new (is_ok result)
+    ensures { Prints W.contents (calls_of W.has_failed W.flushes) printer.old printer.new (is_ok result)
         (names_text (names_in names.now) (seated_parties seats.now)) }
 {
     let mut is_first = true;
@@ -155,7 +155,7 @@ pub fn print_beside_seats<W: Sink, A: Allocator + Copy>(
     names: &Names<'_, A>,
     seats: &[u16],
 ) -> Result<(), WriteFailed>
-    ensures { Prints W.contents W.has_failed printer.old printer.new (is_ok result)
+    ensures { Prints W.contents (calls_of W.has_failed W.flushes) printer.old printer.new (is_ok result)
         (beside names.now (seated_parties seats.now)) }
 {
     if !names.are_wanted() {
@@ -171,7 +171,7 @@ pub fn print_candidates<W: Sink, A: Allocator + Copy>(
     names: &Names<'_, A>,
     members: CandSet,
 ) -> Result<(), WriteFailed>
-    ensures { Prints W.contents W.has_failed printer.old printer.new (is_ok result)
+    ensures { Prints W.contents (calls_of W.has_failed W.flushes) printer.old printer.new (is_ok result)
         (candidates_text names.now members) }
 {
     print_members(printer, members)?;

@@ -1,6 +1,6 @@
 //! Lists of numbers, in digits.
 ghost use Rattle.std.specs.Prelude.{◌≡◌, ◌∷◌, is_ok};
-ghost use Rattle.text_output.specs.Steps.Printing.{Prints};
+ghost use Rattle.text_output.specs.Steps.Printing.{Prints, calls_of};
 ghost use Rattle.text_output.specs.Steps.Numbers.{following_text};
 ghost use Rattle.text_output.specs.Text.{numbers_text};
 
@@ -13,7 +13,7 @@ pub(crate) fn print_number<W: Sink, N: Integer>(
     printer: &mut Printer<'_, W>,
     n: N,
 ) -> Result<(), WriteFailed>
-    ensures { Prints W.contents W.has_failed printer.old printer.new (is_ok result) (N.text n) }
+    ensures { Prints W.contents (calls_of W.has_failed W.flushes) printer.old printer.new (is_ok result) (N.text n) }
 {
     let mut digits = Buffer::new();
     printer.print(digits.format(n).as_bytes())
@@ -21,7 +21,8 @@ pub(crate) fn print_number<W: Sink, N: Integer>(
 
 /// Prints a comma and a number.
 fn print_next<W: Sink, N: Integer>(printer: &mut Printer<'_, W>, n: N) -> Result<(), WriteFailed>
-    ensures { Prints W.contents W.has_failed printer.old printer.new (is_ok result) (44 ∷ N.text n) }
+    ensures { Prints W.contents (calls_of W.has_failed W.flushes) printer.old printer.new (is_ok result)
+        (44 ∷ N.text n) }
 {
     let mut digits = Buffer::new();
     printer.print_all(&[b",", digits.format(n).as_bytes()])
@@ -32,7 +33,8 @@ fn print_other_members<W: Sink>(
     printer: &mut Printer<'_, W>,
     set: CandSet,
 ) -> Result<(), WriteFailed>
-    ensures { Prints W.contents W.has_failed printer.old printer.new (is_ok result) (following_text set) }
+    ensures { Prints W.contents (calls_of W.has_failed W.flushes) printer.old printer.new (is_ok result)
+        (following_text set) }
 {
     for member in set.members() {
         print_next(printer, member)?;
@@ -45,7 +47,8 @@ pub(crate) fn print_members<W: Sink>(
     printer: &mut Printer<'_, W>,
     set: CandSet,
 ) -> Result<(), WriteFailed>
-    ensures { Prints W.contents W.has_failed printer.old printer.new (is_ok result) (numbers_text set) }
+    ensures { Prints W.contents (calls_of W.has_failed W.flushes) printer.old printer.new (is_ok result)
+        (numbers_text set) }
 {
     let Some(parts) = set.split_first() else {
         return Ok(());
@@ -59,7 +62,8 @@ fn print_other_seats<W: Sink>(
     printer: &mut Printer<'_, W>,
     seats: &[u16],
 ) -> Result<(), WriteFailed>
-    ensures { Prints W.contents W.has_failed printer.old printer.new (is_ok result) (following_text seats.now) }
+    ensures { Prints W.contents (calls_of W.has_failed W.flushes) printer.old printer.new (is_ok result)
+        (following_text seats.now) }
 {
     for n in seats {
         print_next(printer, *n)?;
@@ -69,7 +73,8 @@ fn print_other_seats<W: Sink>(
 
 /// Prints the seats of the parties, in their order, with commas between them.
 pub fn print_seats<W: Sink>(printer: &mut Printer<'_, W>, seats: &[u16]) -> Result<(), WriteFailed>
-    ensures { Prints W.contents W.has_failed printer.old printer.new (is_ok result) (numbers_text seats.now) }
+    ensures { Prints W.contents (calls_of W.has_failed W.flushes) printer.old printer.new (is_ok result)
+        (numbers_text seats.now) }
 {
     let [first, others @ ..] = seats else {
         return Ok(());

@@ -1,7 +1,7 @@
 //! Text on its way to a writer, through a buffer of fixed size. What was sent and what waits are together always the
 //! text so far. So a failed write leaves a beginning of the text, and no byte is written twice.
 ghost use Rattle.std.specs.Prelude.{◌≡◌, ◌+◌, ◌<◌, ◌≤◌, ◌++◌, [], flat_map, length, is_ok, true};
-ghost use Rattle.text_output.specs.Steps.Printing.{Prints, Sends};
+ghost use Rattle.text_output.specs.Steps.Printing.{Prints, PrintsAll, Sends, calls_of};
 
 use crate::device::Sink;
 use arrayvec::ArrayVec;
@@ -39,7 +39,7 @@ impl<'a, W: Sink> Printer<'a, W> {
 
     /// Sends what waits to the writer.
     pub fn send(&mut self) -> Result<(), WriteFailed>
-        ensures printed { Prints W.contents W.has_failed self.old self.new (is_ok result) [] }
+        ensures printed { Prints W.contents (calls_of W.has_failed W.flushes) self.old self.new (is_ok result) [] }
         ensures nothing { is_ok result ≡ true → self.new.pending.items ≡ [] }
     {
         write_whole(self.out, self.pending.as_slice())?;
@@ -49,7 +49,7 @@ impl<'a, W: Sink> Printer<'a, W> {
 
     /// Sends what waits if `count` more bytes do not fit after it.
     fn make_room(&mut self, count: usize) -> Result<(), WriteFailed>
-        ensures printed { Prints W.contents W.has_failed self.old self.new (is_ok result) [] }
+        ensures printed { Prints W.contents (calls_of W.has_failed W.flushes) self.old self.new (is_ok result) [] }
         ensures room { is_ok result ≡ true → count ≤ MOST_PENDING
             → length self.new.pending.items + count ≤ MOST_PENDING }
         ensures nothing { is_ok result ≡ true → MOST_PENDING < count → self.new.pending.items ≡ [] }
@@ -62,7 +62,7 @@ impl<'a, W: Sink> Printer<'a, W> {
 
     /// Prints the bytes after those that wait. They are sent at once if there are more of them than ever wait.
     pub fn print(&mut self, bytes: &[u8]) -> Result<(), WriteFailed>
-        ensures { Prints W.contents W.has_failed self.old self.new (is_ok result) bytes.now }
+        ensures { Prints W.contents (calls_of W.has_failed W.flushes) self.old self.new (is_ok result) bytes.now }
     {
         self.make_room(bytes.len())?;
         match self.pending.try_extend_from_slice(bytes) {
@@ -74,7 +74,7 @@ impl<'a, W: Sink> Printer<'a, W> {
 
     /// Prints the pieces, one after the other.
     pub fn print_all(&mut self, pieces: &[&[u8]]) -> Result<(), WriteFailed>
-        ensures { Prints W.contents W.has_failed self.old self.new (is_ok result)
+        ensures { Prints W.contents (calls_of W.has_failed W.flushes) self.old self.new (is_ok result)
             (flat_map (λ piece. piece.now) pieces.now) }
     {
         for piece in pieces {
@@ -85,7 +85,7 @@ impl<'a, W: Sink> Printer<'a, W> {
 
     /// Sends what waits, and flushes the writer once.
     pub fn finish(&mut self) -> Result<(), WriteFailed>
-        ensures printed { Prints W.contents W.has_failed self.old self.new (is_ok result) [] }
+        ensures printed { PrintsAll W.contents (calls_of W.has_failed W.flushes) self.old self.new (is_ok result) [] }
         ensures nothing { is_ok result ≡ true → self.new.pending.items ≡ [] }
     {
         self.send()?;
@@ -98,7 +98,7 @@ impl<'a, W: Sink> Printer<'a, W> {
 
 /// Writes all of the bytes, in as many calls as it takes.
 fn write_whole<W: Sink>(out: &mut W, bytes: &[u8]) -> Result<(), WriteFailed>
-    ensures { Sends W.contents W.has_failed out.old out.new (is_ok result) bytes.now }
+    ensures { Sends W.contents (calls_of W.has_failed W.flushes) out.old out.new (is_ok result) bytes.now }
 {
     let mut sent = 0;
     while sent < bytes.len() {
@@ -112,7 +112,8 @@ fn write_whole<W: Sink>(out: &mut W, bytes: &[u8]) -> Result<(), WriteFailed>
 
 /// Writes the pieces, one after the other. Allocates nothing, and does not flush the writer.
 pub fn write_pieces<W: Sink>(out: &mut W, pieces: &[&[u8]]) -> Result<(), WriteFailed>
-    ensures { Sends W.contents W.has_failed out.old out.new (is_ok result) (flat_map (λ piece. piece.now) pieces.now) }
+    ensures { Sends W.contents (calls_of W.has_failed W.flushes) out.old out.new (is_ok result)
+        (flat_map (λ piece. piece.now) pieces.now) }
 {
     let mut printer = Printer::new(out);
     printer.print_all(pieces)?;

@@ -27,6 +27,7 @@ use Rattle.seat_share.specs.declared.method.Method.TheVariants.{Dhondt}
 use Rattle.seat_share.specs.Allocations.{lists_with_sum}
 use Rattle.vote_cli.specs.Answer.{Answer, answered, violated, refused, request_refused, election_answer, IsCheckAnswer, may_be_checked, share_answer, share_answer_by, ballots_answer, IsAnswer}
 use Rattle.vote_cli.specs.Runs.{Ends, FailsToRead, IsAllRead, IsRight, IsTooLong, LeavesRun, ReadsInput, ReadsSoundly, Reports, has_votes, input_for, memory_line, read_failed_line, write_failed_line}
+use Rattle.text_output.specs.Steps.Printing.{Calls}
 use Rattle.vote_cli.specs.Steps.Refusals.{IsRefusal, IsUnread, status_of, error_of, ReadsBallots, TellsOfReads, TellsOfWrites, ReadsOn, WritesRight, WritesText}
 use Rattle.vote_cli.specs.Steps.RequestFaults.{request_fault_word}
 use Rattle.ballot_base.specs.Lists.{IsIncreasing}
@@ -290,8 +291,12 @@ broken = silent true 5
 abbrev sound : ReaderState
 sound = silent false 5
 
+-- a writer that was not flushed, and one that was flushed once
 abbrev wrote : List ℕ → Bool → WriterState
-wrote bytes has_failed = record { contents = Some bytes; has_failed = has_failed }
+wrote bytes has_failed = record { contents = Some bytes; has_failed = has_failed; flushes = 0 }
+
+abbrev flushed : List ℕ → WriterState
+flushed bytes = record { contents = Some bytes; has_failed = false; flushes = 1 }
 
 sound_reads : ReadsSoundly unread sound
 sound_reads = record { unfailed = refl; few = omega arith }
@@ -337,8 +342,8 @@ nothing_reported : Reports quiet quiet []
 nothing_reported = record { beginning = ([], [], refl, refl); whole = λ unfailed. refl }
 
 -- the answer was written
-ends_answered : Ends (seats 1) (read_of example_text false 0) (read_of [] false 90) quiet (wrote text false) quiet quiet Answered
-ends_answered = record { answer = answered text; right = right_of_one; status_is = refl; input = input_read; wrote = refl; text = refl; error = nothing_reported }
+ends_answered : Ends (seats 1) (read_of example_text false 0) (read_of [] false 90) quiet (flushed text) quiet quiet Answered
+ends_answered = record { answer = answered text; right = right_of_one; status_is = refl; input = input_read; wrote = refl; flushed = refl; text = refl; error = nothing_reported }
 
 ends_refused : Ends (seats 1) (read_of [] false 0) (read_of [] false 0) quiet quiet quiet (wrote (line (codes "committees: input: NoAlternatives")) false) InputRefused
 ends_refused = record {
@@ -347,12 +352,13 @@ ends_refused = record {
   status_is = refl;
   input = record { sound = record { unfailed = refl; few = omega arith }; whole = λ free. refl };
   wrote = refl;
+  flushed = refl;
   text = refl;
   error = record { beginning = (line (codes "committees: input: NoAlternatives"), [], refl, refl); whole = λ unfailed. refl };
 }
 
 ends_without_memory : Ends (seats 1) unread sound quiet quiet quiet (wrote memory_line false) NoMemory
-ends_without_memory = record { over_input = refl; read = sound_reads; unfailed = refl; text = refl; error = record { beginning = (memory_line, [], refl, refl); whole = λ unfailed. refl } }
+ends_without_memory = record { over_input = refl; read = sound_reads; unfailed = refl; unflushed = refl; text = refl; error = record { beginning = (memory_line, [], refl, refl); whole = λ unfailed. refl } }
 
 -- a read failed, and the line on it was not taken whole
 ends_unread : Ends (seats 1) unread broken quiet quiet quiet (wrote (codes "committees") true) DeviceFailed
@@ -360,6 +366,7 @@ ends_unread = inl (record {
   over_input = refl;
   unread = inl refl;
   unfailed = refl;
+  unflushed = refl;
   text = refl;
   error = record { beginning = (codes "committees", codes ": read failed" ++ 10 ∷ [], refl, refl); whole = λ unfailed. absurd (both_ways true unfailed refl) };
 })
@@ -390,7 +397,7 @@ never_unread (inr ends) = absurd (true≢false (sym ends.failed))
 abbrev Leaves : Request → (read_old read_new : ReaderState) (out_old out_new err_old err_new : WriterState) → Status → Type 0
 Leaves = LeavesRun (λ reader. reader) (λ out. out) (λ err. err)
 
-leaves_answered : Leaves (seats 1) (read_of example_text false 0) (read_of [] false 90) quiet (wrote text false) quiet quiet Answered
+leaves_answered : Leaves (seats 1) (read_of example_text false 0) (read_of [] false 90) quiet (flushed text) quiet quiet Answered
 leaves_answered = record { ends = ends_answered; alone = λ votes. absurd (true≢false (sym votes)) }
 
 -- two seats for the one party
@@ -402,7 +409,7 @@ unfolding digits lists_with_sum
 answer_of_two = refl
 
 -- with votes in the words, a reader that had failed is left as it was
-leaves_with_votes : Leaves of_two broken broken quiet (wrote text_of_two false) quiet quiet Answered
+leaves_with_votes : Leaves of_two broken broken quiet (flushed text_of_two) quiet quiet Answered
 leaves_with_votes = record {
   ends = record {
     answer = answered text_of_two;
@@ -410,6 +417,7 @@ leaves_with_votes = record {
     status_is = refl;
     input = record { sound = record { unfailed = refl; few = omega arith }; whole = λ free. absurd (true≢false free) };
     wrote = refl;
+    flushed = refl;
     text = refl;
     error = nothing_reported;
   };
@@ -424,7 +432,7 @@ never_silent run =
     let text_is : run.ends.answer.text ≡ text_of_two = ap (λ (answer : Answer). answer.text) (right ∙ answer_of_two) in
     let h : [] ≡ text_of_two = none ∙ text_is in cc
 
-never_read : Leaves of_two unread sound quiet (wrote text_of_two false) quiet quiet Answered → ⊥
+never_read : Leaves of_two unread sound quiet (flushed text_of_two) quiet quiet Answered → ⊥
 never_read run =
     let same : sound ≡ unread = run.alone refl in
     let given : 5 ≡ 0 = ap (λ (reader : ReaderState). reader.given) same in omega (arith, given)
@@ -435,7 +443,17 @@ input_of_demands = (refl, refl)
 all_read : (IsAllRead (read_of (1 ∷ []) false 0) (read_of [] false 1)) × (ReadsOn {T = ℕ} (read_of (1 ∷ []) false 0) (read_of [] false 1) (Err refusal.WriteFailed))
 all_read = (refl, (record { unfailed = refl; few = omega arith }, refl))
 
-refusals_told : (TellsOfReads {T = ℕ} (of_ballots (checking Jr [])) unread broken (Err refusal.ReadFailed)) × (TellsOfReads {T = ℕ} (of_ballots (checking Jr [])) unread sound (Err refusal.Memory)) × (TellsOfWrites {T = ℕ} false true (Err refusal.WriteFailed)) × (TellsOfWrites {T = ℕ} false false (Ok 1))
+-- calls on a writer: none, a failed one, and a flush
+abbrev no_calls : Calls
+no_calls = record { has_failed = false; flushes = 0 }
+
+abbrev failed_call : Calls
+failed_call = record { has_failed = true; flushes = 0 }
+
+abbrev one_flush : Calls
+one_flush = record { has_failed = false; flushes = 1 }
+
+refusals_told : (TellsOfReads {T = ℕ} (of_ballots (checking Jr [])) unread broken (Err refusal.ReadFailed)) × (TellsOfReads {T = ℕ} (of_ballots (checking Jr [])) unread sound (Err refusal.Memory)) × (TellsOfWrites {T = ℕ} no_calls failed_call (Err refusal.WriteFailed)) × (TellsOfWrites {T = ℕ} no_calls one_flush (Ok 1))
 refusals_told = ((refl, inl refl), (refl, sound_reads), refl, refl)
 
 -- three bytes are not too many, nor are five that a reader gave that does not tell them; 2^64 are, and those before do
@@ -460,5 +478,5 @@ prepared = (reads_three, reads_nothing, tt)
 concluded : WritesRight (IsRight (seats 4) (read_of example_text false 0)) (Some []) (Some []) (Err (refusal.Request request_fault.SizeTooLarge))
 concluded = (right_answer, refl)
 
-concluded_whole : WritesText (λ (w : Option (List ℕ)). w) (λ w. false) (Some []) (Some (codes "a")) (Ok outcome.Answered) (codes "a")
+concluded_whole : WritesText (λ (w : WriterState). w.contents) (λ w. record { has_failed = w.has_failed; flushes = w.flushes }) quiet (flushed (codes "a")) (Ok outcome.Answered) (codes "a")
 concluded_whole = record { answer = (codes "a", refl, refl); writes = refl; unread = λ e. cc }

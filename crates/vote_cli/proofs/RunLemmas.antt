@@ -30,9 +30,9 @@ use Rattle.text_output.specs.Device.{ReaderState, WriterState}
 use Rattle.text_output.specs.Names.{Names, naming}
 use Rattle.vote_cli.specs.Steps.RequestFaults.{request_fault_word}
 use Rattle.vote_cli.specs.Answer.{Answer, IsAnswer, IsAnswerAbout, IsAnswerOver, IsAnswerTo, IsCheckAnswer, ballots_answer, may_be_checked, share_answer, answered, request_refused, refused, violated}
-use Rattle.vote_cli.specs.Runs.{Ends, EndsAnswered, IsRight, IsTooLong, ReadsInput, ReadsSoundly, Reports, input_for}
-use Rattle.text_output.specs.Steps.Printing.{Passes, Sends}
-use Rattle.text_output.proofs.PrintingLemmas.{Passes-broken, Passes-then, alone}
+use Rattle.vote_cli.specs.Runs.{Ends, EndsAnswered, IsRight, IsTooLong, ReadsInput, ReadsSoundly, Reports, flushes_for, input_for}
+use Rattle.text_output.specs.Steps.Printing.{Calls, Passes, Sends, SendsAll, calls_of, flushed_once}
+use Rattle.text_output.proofs.PrintingLemmas.{Passes-broken, Passes-cut, Passes-flushed, Passes-then, alone}
 use Rattle.vote_cli.proofs.StartLemmas.{may_be_checked-true}
 use Rattle.vote_cli.specs.Steps.Refusals.{WritesRight, Writes, ReadsBallots, ReadsOn, TellsOfReads, TellsOfWrites, error_of, status_of}
 
@@ -41,69 +41,69 @@ Reports-nothing : (err : WriterState) → Reports err err []
 Reports-nothing err = record { beginning = ([], [], refl, Appends-nil err.contents); whole = λ e. Appends-nil err.contents }
 
 -- a text that was printed with nothing left waiting
-Passes-all : {old new : Option (List ℕ)} {had_failed has_failed : Bool} {text : List ℕ} → Passes (alone old had_failed) (alone new has_failed) true text → Appends old new text
+Passes-all : {old new : Option (List ℕ)} {called calls : Calls} {text : List ℕ} → Passes (alone old called) (alone new calls) true text → Appends old new text
 Passes-all {old} {new} h = subst (Appends old new) (sym (append-nil h.sent) ∙ ap (λ rest. h.sent ++ rest) (sym (h.whole refl).0) ∙ h.order) h.took
 
-module _ {W : Type 0} {contents : W → Option (List ℕ)} {has_failed : W → Bool} (IsRight : Answer → Type 0) {old new : W} where
+module _ {W : Type 0} {contents : W → Option (List ℕ)} {calls : W → Calls} (IsRight : Answer → Type 0) {old new : W} where
   -- the text of a right answer was not printed whole
   pub writes_part : (answer : Answer) (result : Result Outcome Refusal) {ok : Bool} → IsRight answer
-      → IsErr result × IsErrAnd result (λ refusal. refusal ≡ WriteFailed) → ok ≡ false → Sends contents has_failed old new ok answer.text
-      → Writes contents has_failed old new result IsRight
+      → IsErr result × IsErrAnd result (λ refusal. refusal ≡ WriteFailed) → ok ≡ false → SendsAll contents calls old new ok answer.text
+      → Writes contents calls old new result IsRight
   writes_part answer (Ok ended) right failed broke prints = absurd (true≢false (sym failed.0))
   writes_part answer (Err refusal) right failed broke prints =
-      subst (λ r. Writes contents has_failed old new (Err r) IsRight) (sym failed.1)
+      subst (λ r. Writes contents calls old new (Err r) IsRight) (sym failed.1)
       (record { answer = (answer, right, (prints.sent, prints.rest, prints.order, prints.took)); writes = prints.broken broke; unread = λ e. cc })
 
   -- the text of a right answer was printed whole
   pub writes_answered : (text : List ℕ) (printed : Result (Unit {0}) Broken) (done : Unit {0}) → IsRight (answered text) → printed ≡ Ok done
-      → Sends contents has_failed old new (is_ok printed) text → Writes contents has_failed old new (Ok outcome.Answered) IsRight
+      → SendsAll contents calls old new (is_ok printed) text → Writes contents calls old new (Ok outcome.Answered) IsRight
   writes_answered text printed done right was prints =
-      let whole : Sends contents has_failed old new true text = subst (λ p. Sends contents has_failed old new (is_ok p) text) was prints in
+      let whole : SendsAll contents calls old new true text = subst (λ p. SendsAll contents calls old new (is_ok p) text) was prints in
       record { answer = (text, right, Passes-all whole); writes = (whole.whole refl).1; unread = λ e. cc }
 
   pub writes_violated : (text : List ℕ) (printed : Result (Unit {0}) Broken) (done : Unit {0}) → IsRight (violated text) → printed ≡ Ok done
-      → Sends contents has_failed old new (is_ok printed) text → Writes contents has_failed old new (Ok outcome.Violated) IsRight
+      → SendsAll contents calls old new (is_ok printed) text → Writes contents calls old new (Ok outcome.Violated) IsRight
   writes_violated text printed done right was prints =
-      let whole : Sends contents has_failed old new true text = subst (λ p. Sends contents has_failed old new (is_ok p) text) was prints in
+      let whole : SendsAll contents calls old new true text = subst (λ p. SendsAll contents calls old new (is_ok p) text) was prints in
       record { answer = (text, right, Passes-all whole); writes = (whole.whole refl).1; unread = λ e. cc }
 
 -- an answer that is written in two parts
-module _ {W : Type 0} {contents : W → Option (List ℕ)} {has_failed : W → Bool} {old new : W} where
+module _ {W : Type 0} {contents : W → Option (List ℕ)} {calls : W → Calls} {old new : W} where
   -- the first part was not written whole
   pub writes_first : {one whole : List ℕ} (other : List ℕ) (first : Result (Unit {0}) Broken) (e : Broken) (result : Result Outcome Refusal) → first ≡ Err e
-      → IsErr result × IsErrAnd result (λ refusal. refusal ≡ WriteFailed) → whole ≡ one ++ other → Sends contents has_failed old new (is_ok first) one
-      → Writes contents has_failed old new result (λ answer. answer ≡ answered whole)
+      → IsErr result × IsErrAnd result (λ refusal. refusal ≡ WriteFailed) → whole ≡ one ++ other → Sends contents calls old new (is_ok first) one
+      → Writes contents calls old new result (λ answer. answer ≡ answered whole)
   writes_first {one} {whole} other first e result was failed parts sent =
-      let broken : Sends contents has_failed old new false one = subst (λ r. Sends contents has_failed old new (is_ok r) one) was sent in
+      let broken : Sends contents calls old new false one = subst (λ r. Sends contents calls old new (is_ok r) one) was sent in
       writes_part (λ answer. answer ≡ answered whole) (answered whole) result refl failed refl
-      (subst (Sends contents has_failed old new false) (sym parts) (Passes-broken other broken))
+      (subst (SendsAll contents calls old new false) (sym parts) (Passes-cut (Passes-broken other broken)))
 
   -- the first part was, and the second was not
   pub writes_second : (mid : W) {one other whole : List ℕ} (first : Result (Unit {0}) Broken) (done : Unit {0}) (second : Result (Unit {0}) Broken) (e : Broken) (result : Result Outcome Refusal)
       → first ≡ Ok done → second ≡ Err e → IsErr result × IsErrAnd result (λ refusal. refusal ≡ WriteFailed) → whole ≡ one ++ other
-      → Sends contents has_failed old mid (is_ok first) one → Sends contents has_failed mid new (is_ok second) other
-      → Writes contents has_failed old new result (λ answer. answer ≡ answered whole)
+      → Sends contents calls old mid (is_ok first) one → SendsAll contents calls mid new (is_ok second) other
+      → Writes contents calls old new result (λ answer. answer ≡ answered whole)
   writes_second mid {one} {other} {whole} first done second e result was broke failed parts sent cut =
-      let begun : Sends contents has_failed old mid true one = subst (λ r. Sends contents has_failed old mid (is_ok r) one) was sent in
-      let broken : Sends contents has_failed mid new false other = subst (λ r. Sends contents has_failed mid new (is_ok r) other) broke cut in
+      let begun : Sends contents calls old mid true one = subst (λ r. Sends contents calls old mid (is_ok r) one) was sent in
+      let broken : SendsAll contents calls mid new false other = subst (λ r. SendsAll contents calls mid new (is_ok r) other) broke cut in
       writes_part (λ answer. answer ≡ answered whole) (answered whole) result refl failed refl
-      (subst (Sends contents has_failed old new false) (sym parts) (Passes-then begun broken))
+      (subst (SendsAll contents calls old new false) (sym parts) (Passes-then (Passes-flushed begun) broken))
 
   -- both parts were
   pub writes_both : (mid : W) {one other whole : List ℕ} (first second : Result (Unit {0}) Broken) (done ended : Unit {0})
       → first ≡ Ok done → second ≡ Ok ended → whole ≡ one ++ other
-      → Sends contents has_failed old mid (is_ok first) one → Sends contents has_failed mid new (is_ok second) other
-      → Writes contents has_failed old new (Ok outcome.Answered) (λ answer. answer ≡ answered whole)
+      → Sends contents calls old mid (is_ok first) one → SendsAll contents calls mid new (is_ok second) other
+      → Writes contents calls old new (Ok outcome.Answered) (λ answer. answer ≡ answered whole)
   writes_both mid {one} {other} {whole} first second done ended was ends parts sent more =
-      let begun : Sends contents has_failed old mid true one = subst (λ r. Sends contents has_failed old mid (is_ok r) one) was sent in
+      let begun : Sends contents calls old mid true one = subst (λ r. Sends contents calls old mid (is_ok r) one) was sent in
       writes_answered (λ answer. answer ≡ answered whole) whole second ended refl ends
-      (subst (Sends contents has_failed old new (is_ok second)) (sym parts) (Passes-then begun more))
+      (subst (SendsAll contents calls old new (is_ok second)) (sym parts) (Passes-then (Passes-flushed begun) more))
 
 -- the same right answer in other words
-pub writes_as : {W : Type 0} {contents : W → Option (List ℕ)} {has_failed : W → Bool} {old new : W} {result : Result Outcome Refusal} {one other : Answer} → one ≡ other
-    → Writes contents has_failed old new result (λ answer. answer ≡ one) → Writes contents has_failed old new result (λ answer. answer ≡ other)
-writes_as {contents = contents} {has_failed = has_failed} {old = old} {new = new} {result = result} same h =
-    subst (λ it. Writes contents has_failed old new result (λ answer. answer ≡ it)) same h
+pub writes_as : {W : Type 0} {contents : W → Option (List ℕ)} {calls : W → Calls} {old new : W} {result : Result Outcome Refusal} {one other : Answer} → one ≡ other
+    → Writes contents calls old new result (λ answer. answer ≡ one) → Writes contents calls old new result (λ answer. answer ≡ other)
+writes_as {contents = contents} {calls = calls} {old = old} {new = new} {result = result} same h =
+    subst (λ it. Writes contents calls old new result (λ answer. answer ≡ it)) same h
 
 -- the answers about a committee that is the list's, among m candidates
 pub check_holds : (property : Property) (with_names : Bool) (e : Election) (m : ℕ) (list committee : List ℕ) → m ≡ e.m → committee ≡ list → IsIncreasing 1 m list → length list ≤ most_members
@@ -218,17 +218,22 @@ too_many (Some bytes) (Some rest) read consumed long =
 
 -- ---- what a run leaves
 
+-- the calls on a writer in this state
+abbrev pub calls_on : WriterState → Calls
+calls_on writer = record { has_failed = writer.has_failed; flushes = writer.flushes }
+
 module _ (asked : Request) (read_old read_new : ReaderState) (out_old out_new err_old err_new : WriterState) where
   -- an answer that was written whole
-  pub ends_answered : (answer : Answer) → IsRight asked read_old answer → answer.error ≡ [] → err_new ≡ err_old → ReadsInput read_old read_new asked.task
-      → out_new.has_failed ≡ out_old.has_failed → Appends out_old.contents out_new.contents answer.text
+  pub ends_answered : (answer : Answer) → IsRight asked read_old answer → answer.error ≡ [] → flushes_for answer.status ≡ 1 → err_new ≡ err_old → ReadsInput read_old read_new asked.task
+      → calls_on out_new ≡ flushed_once (calls_on out_old) → Appends out_old.contents out_new.contents answer.text
       → EndsAnswered asked read_old read_new out_old out_new err_old err_new answer.status
-  ends_answered answer right none silent reads writes text = record {
+  ends_answered answer right none once silent reads writes text = record {
     answer = answer;
     right = right;
     status_is = refl;
     input = reads;
-    wrote = writes;
+    wrote = ap (λ (calls : Calls). calls.has_failed) writes;
+    flushed = omega (arith, ap (λ (calls : Calls). calls.flushes) writes, once);
     text = text;
     error = subst (λ e. Reports err_old e answer.error) (sym silent) (subst (Reports err_old err_old) (sym none) (Reports-nothing err_old));
   }
@@ -236,15 +241,21 @@ module _ (asked : Request) (read_old read_new : ReaderState) (out_old out_new er
   -- a refusal, with its line
   pub ends_refused : (refusal : Refusal) (ends : Status) → ends ≡ status_of refusal → Reports err_old err_new (error_of refusal)
       → WritesRight (IsRight asked read_old) out_old.contents out_new.contents (Err refusal) → TellsOfReads {T = Outcome} asked.task read_old read_new (Err refusal)
-      → TellsOfWrites {T = Outcome} out_old.has_failed out_new.has_failed (Err refusal) → Ends asked read_old read_new out_old out_new err_old err_new ends
+      → TellsOfWrites {T = Outcome} (calls_on out_old) (calls_on out_new) (Err refusal) → Ends asked read_old read_new out_old out_new err_old err_new ends
   ends_refused refusal ends is error h reads writes = subst (Ends asked read_old read_new out_old out_new err_old err_new) (sym is) (go refusal error h reads writes)
     where
+      failed : calls_on out_new ≡ calls_on out_old → out_new.has_failed ≡ out_old.has_failed
+      failed same = ap (λ (calls : Calls). calls.has_failed) same
+
+      flushes : calls_on out_new ≡ calls_on out_old → out_new.flushes ≡ out_old.flushes
+      flushes same = ap (λ (calls : Calls). calls.flushes) same
+
       go : (r : Refusal) → Reports err_old err_new (error_of r) → WritesRight (IsRight asked read_old) out_old.contents out_new.contents (Err r) → TellsOfReads {T = Outcome} asked.task read_old read_new (Err r)
-          → TellsOfWrites {T = Outcome} out_old.has_failed out_new.has_failed (Err r) → Ends asked read_old read_new out_old out_new err_old err_new (status_of r)
+          → TellsOfWrites {T = Outcome} (calls_on out_old) (calls_on out_new) (Err r) → Ends asked read_old read_new out_old out_new err_old err_new (status_of r)
       go (Input fault) error h reads writes =
-          record { answer = refused status.InputRefused (fault_text fault); right = h.0; status_is = refl; input = reads; wrote = writes; text = h.1; error = error }
+          record { answer = refused status.InputRefused (fault_text fault); right = h.0; status_is = refl; input = reads; wrote = failed writes; flushed = omega (arith, flushes writes); text = h.1; error = error }
       go (reason.Request fault) error h reads writes =
-          record { answer = request_refused (request_fault_word fault); right = h.0; status_is = refl; input = reads; wrote = writes; text = h.1; error = error }
-      go Memory error h reads writes = record { over_input = reads.0; read = reads.1; unfailed = writes; text = h; error = error }
-      go ReadFailed error h reads writes = inl (record { over_input = reads.0; unread = reads.1; unfailed = writes; text = h; error = error })
+          record { answer = request_refused (request_fault_word fault); right = h.0; status_is = refl; input = reads; wrote = failed writes; flushed = omega (arith, flushes writes); text = h.1; error = error }
+      go Memory error h reads writes = record { over_input = reads.0; read = reads.1; unfailed = failed writes; unflushed = flushes writes; text = h; error = error }
+      go ReadFailed error h reads writes = inl (record { over_input = reads.0; unread = reads.1; unfailed = failed writes; unflushed = flushes writes; text = h; error = error })
       go WriteFailed error h reads writes = inr (record { answer = h.0; right = h.1; input = reads; failed = writes; text = h.2; error = error })

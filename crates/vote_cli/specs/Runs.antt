@@ -8,7 +8,7 @@ use Rattle.vote_cli.specs.Answer.{Answer, IsAnswer}
 use Rattle.text_output.specs.Device.{AppendsBeginning, ReaderState, WriterState}
 use Rattle.text_output.specs.Text.{line}
 use Rattle.vote_cli.specs.declared.status.Status.{Status}
-use Rattle.vote_cli.specs.declared.status.Status.TheVariants.{NoMemory, DeviceFailed}
+use Rattle.vote_cli.specs.declared.status.Status.TheVariants.{Answered, Violated, NoMemory, DeviceFailed}
 
 -- whether the votes stand in the command line
 abbrev pub has_votes : Task → Bool
@@ -65,6 +65,12 @@ pub record Reports (old new : WriterState) (error : List ℕ) : Type 0 where
 
 -- ---- how a run may end
 
+-- how often a run flushes its writer: once after an answer
+abbrev pub flushes_for : Status → ℕ
+flushes_for Answered = 1
+flushes_for Violated = 1
+flushes_for status = 0
+
 -- an answer to the request and the bytes of the input, if these are known
 abbrev pub IsRight : Request → ReaderState → Answer → Type 0
 IsRight asked reader answer = IfSome (input_for asked.task reader.remaining) (λ bytes. IsAnswer asked bytes answer)
@@ -78,6 +84,7 @@ module _ (asked : Request) (read_old read_new : ReaderState) (out_old out_new er
     pub status_is : answer.status ≡ status
     pub input : ReadsInput read_old read_new asked.task
     pub wrote : out_new.has_failed ≡ out_old.has_failed
+    pub flushed : out_new.flushes ≡ out_old.flushes + flushes_for status
     pub text : Appends out_old.contents out_new.contents answer.text
     pub error : Reports err_old err_new answer.error
 
@@ -86,6 +93,7 @@ module _ (asked : Request) (read_old read_new : ReaderState) (out_old out_new er
     pub over_input : has_votes asked.task ≡ false
     pub read : ReadsSoundly read_old read_new
     pub unfailed : out_new.has_failed ≡ out_old.has_failed
+    pub unflushed : out_new.flushes ≡ out_old.flushes
     pub text : Appends out_old.contents out_new.contents []
     pub error : Reports err_old err_new memory_line
 
@@ -94,6 +102,7 @@ module _ (asked : Request) (read_old read_new : ReaderState) (out_old out_new er
     pub over_input : has_votes asked.task ≡ false
     pub unread : FailsToRead read_old read_new
     pub unfailed : out_new.has_failed ≡ out_old.has_failed
+    pub unflushed : out_new.flushes ≡ out_old.flushes
     pub text : Appends out_old.contents out_new.contents []
     pub error : Reports err_old err_new read_failed_line
 

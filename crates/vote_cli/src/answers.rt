@@ -3,6 +3,7 @@ ghost use Rattle.std.specs.Prelude.{◌≡◌, ◌≢◌, [], Err, IfErr, IfOk, 
 ghost use Rattle.std.specs.Option.{option_copied};
 ghost use Rattle.request_words.specs.Request.{IsInRange, page_of, question_of};
 ghost use Rattle.seat_share.specs.Faults.{has_other_length};
+ghost use Rattle.text_output.specs.Steps.Printing.{calls_of};
 ghost use Rattle.vote_cli.specs.Answer.{IsAnswerAbout, IsCheckAnswer, ballots_answer, share_answer};
 ghost use Rattle.vote_cli.specs.Starts.{has_seats_for, may_start};
 ghost use Rattle.vote_cli.specs.Steps.Refusals.{Writes};
@@ -73,7 +74,7 @@ pub(crate) fn answer_share<A: Allocator + Copy, W: Sink>(
     sharing: &Sharing,
     names: &Names<'_, A>,
 ) -> Result<Outcome, Refusal>
-    ensures wrote { Writes W.contents W.has_failed out.old out.new result (λ answer. answer
+    ensures wrote { Writes W.contents (calls_of W.has_failed W.flushes) out.old out.new result (λ answer. answer
         ≡ share_answer sharing.now.method sharing.now.seats (page_of sharing.now.page) names.now votes.now) }
     ensures memory { result ≢ Err Refusal.Memory }
 {
@@ -100,7 +101,7 @@ impl<A: Allocator + Copy + Drop> Ballots<'_, A> {
         list: &[u64],
     ) -> Result<Outcome, Refusal>
         requires some { list.now ≢ [] }
-        ensures wrote { Writes W.contents W.has_failed out.old out.new result
+        ensures wrote { Writes W.contents (calls_of W.has_failed W.flushes) out.old out.new result
             (IsCheckAnswer property list.now self.now.with_names self.now.profile.now) }
         ensures memory { result ≢ Err Refusal.Memory }
     {
@@ -122,7 +123,8 @@ impl<A: Allocator + Copy + Drop> Ballots<'_, A> {
 
     /// Writes the fair allocations that are asked for. Each voter counts for the one party that the ballot approves.
     fn answer_share<W: Sink>(&self, out: &mut W, sharing: &Sharing) -> Result<Outcome, Refusal>
-        ensures wrote { let asked = sharing.now in Writes W.contents W.has_failed out.old out.new result
+        ensures wrote { let asked = sharing.now in
+            Writes W.contents (calls_of W.has_failed W.flushes) out.old out.new result
             (λ answer. answer ≡ ballots_answer asked.method asked.seats (page_of asked.page)
             self.now.with_names self.now.profile.now) }
         ensures memory { result ≢ Err Refusal.Memory }
@@ -141,7 +143,7 @@ impl<A: Allocator + Copy + Drop> Ballots<'_, A> {
         question: &Question,
     ) -> Result<Outcome, Refusal>
         requires asked { IsInRange (question_of question.now) }
-        ensures { Writes W.contents W.has_failed out.old out.new result
+        ensures { Writes W.contents (calls_of W.has_failed W.flushes) out.old out.new result
             (IsAnswerAbout self.now.with_names (question_of question.now) self.now.profile.now) }
     {
         match question {

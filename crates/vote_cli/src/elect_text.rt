@@ -2,7 +2,7 @@
 ghost use Rattle.std.specs.Prelude.{◌≡◌, ◌≤◌, ◌++◌, IfErr, IfOk, is_ok};
 ghost use Rattle.ballot_base.specs.Limits.{most_members};
 ghost use Rattle.request_words.specs.Request.{page_of};
-ghost use Rattle.text_output.specs.Steps.Printing.{Prints, Sends};
+ghost use Rattle.text_output.specs.Steps.Printing.{Prints, Sends, SendsAll, calls_of};
 ghost use Rattle.text_output.specs.Text.{line};
 ghost use Rattle.tie_walk.specs.Winners.{IsStart};
 ghost use Rattle.vote_cli.specs.Answer.{answered, election_answer, request_refused};
@@ -29,7 +29,7 @@ fn print_score<W: Sink>(
     score: u128,
     denominator: u128,
 ) -> Result<(), WriteFailed>
-    ensures { Prints W.contents W.has_failed printer.old printer.new (is_ok result)
+    ensures { Prints W.contents (calls_of W.has_failed W.flushes) printer.old printer.new (is_ok result)
         (line (score_text score denominator)) }
 {
     let mut score_digits = Buffer::new();
@@ -96,7 +96,7 @@ impl<'a, A: Allocator + Copy + Drop> Listing<'a, A> {
         rule: ScoredRule,
         best: u128,
     ) -> Result<(), WriteFailed>
-        ensures { Prints W.contents W.has_failed printer.old printer.new (is_ok result)
+        ensures { Prints W.contents (calls_of W.has_failed W.flushes) printer.old printer.new (is_ok result)
             (line (best_text rule self.now.profile.now.m self.now.size best)) }
     {
         let m = self.profile.m();
@@ -115,7 +115,8 @@ impl<'a, A: Allocator + Copy + Drop> Listing<'a, A> {
     // Not inlined: its printer takes 8 KB of stack, which would lie beside a search for winners.
     #[inline(never)]
     pub(crate) fn write_rule<W: Sink>(&self, out: &mut W, rule: Rule) -> Result<(), WriteFailed>
-        ensures { Sends W.contents W.has_failed out.old out.new (is_ok result) (rule_lines rule self.now.size) }
+        ensures { Sends W.contents (calls_of W.has_failed W.flushes) out.old out.new (is_ok result)
+            (rule_lines rule self.now.size) }
     {
         let mut size_digits = Buffer::new();
         let pieces = [
@@ -137,7 +138,7 @@ impl<'a, A: Allocator + Copy + Drop> Listing<'a, A> {
         rule: ScoredRule,
     ) -> Result<(), WriteFailed>
         requires { T.candidates tally.now ≡ self.now.profile.now.m }
-        ensures { Sends W.contents W.has_failed out.old out.new (is_ok result)
+        ensures { SendsAll W.contents (calls_of W.has_failed W.flushes) out.old out.new (is_ok result)
             (ranked_text rule (T.value_of tally.now) self.now.size
             (record { after = self.now.after; limit = self.now.limit }) self.now.names self.now.profile.now) }
     {
@@ -153,7 +154,7 @@ impl<'a, A: Allocator + Copy + Drop> Listing<'a, A> {
         rule: ScoredRule,
     ) -> Result<(), WriteFailed>
         requires { S.candidates search ≡ self.now.profile.now.m }
-        ensures { Sends W.contents W.has_failed out.old out.new (is_ok result)
+        ensures { SendsAll W.contents (calls_of W.has_failed W.flushes) out.old out.new (is_ok result)
             (ranked_text rule (S.value_of search) self.now.size
             (record { after = self.now.after; limit = self.now.limit }) self.now.names self.now.profile.now) }
     {
@@ -169,7 +170,7 @@ impl<'a, A: Allocator + Copy + Drop> Listing<'a, A> {
         best: u128,
         winners: &mut B,
     ) -> Result<(), WriteFailed>
-        ensures { Sends W.contents W.has_failed out.old out.new (is_ok result)
+        ensures { SendsAll W.contents (calls_of W.has_failed W.flushes) out.old out.new (is_ok result)
             (line (best_text rule self.now.profile.now.m self.now.size best)
             ++ answers_text (B.Answer.line_of self.now.names) self.now.limit (B.left winners.old)) }
     {
@@ -184,7 +185,7 @@ impl<'a, A: Allocator + Copy + Drop> Listing<'a, A> {
         out: &mut W,
         mut winners: FamilyWinners<'_, A>,
     ) -> Result<(), WriteFailed>
-        ensures { Sends W.contents W.has_failed out.old out.new (is_ok result)
+        ensures { SendsAll W.contents (calls_of W.has_failed W.flushes) out.old out.new (is_ok result)
             (answers_text (committee_line self.now.names) self.now.limit winners.entry) }
     {
         let mut printer = Printer::new(out);

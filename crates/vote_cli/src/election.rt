@@ -6,7 +6,7 @@
 //! should not lie beside it.
 ghost use Rattle.std.specs.Prelude.{◌≡◌, IfOk, is_ok};
 ghost use Rattle.tie_walk.specs.Values.{thiele_of};
-ghost use Rattle.text_output.specs.Steps.Printing.{Sends};
+ghost use Rattle.text_output.specs.Steps.Printing.{SendsAll, calls_of};
 ghost use Rattle.vote_cli.specs.Steps.Listed.{listed_text, winners_text};
 ghost use Rattle.vote_cli.specs.Steps.Refusals.{WritesText};
 
@@ -29,7 +29,8 @@ pub(crate) fn answer_election<A: Allocator + Copy + Drop, W: Sink>(
     rule: Rule,
     listing: &Listing<'_, A>,
 ) -> Result<Outcome, Refusal>
-    ensures { WritesText W.contents W.has_failed out.old out.new result (listed_text listing.now rule) }
+    ensures { WritesText W.contents (calls_of W.has_failed W.flushes) out.old out.new result
+        (listed_text listing.now rule) }
 {
     match rule {
         Rule::Scored(rule) => answer_scored(alloc, out, rule, listing),
@@ -43,7 +44,8 @@ fn answer_scored<A: Allocator + Copy + Drop, W: Sink>(
     rule: ScoredRule,
     listing: &Listing<'_, A>,
 ) -> Result<Outcome, Refusal>
-    ensures { WritesText W.contents W.has_failed out.old out.new result (listed_text listing.now (Rule.Scored rule)) }
+    ensures { WritesText W.contents (calls_of W.has_failed W.flushes) out.old out.new result
+        (listed_text listing.now (Rule.Scored rule)) }
 {
     match rule {
         ScoredRule::Thiele(ThieleRule::Av) => answer_approval(out, listing),
@@ -59,7 +61,7 @@ fn answer_approval<A: Allocator + Copy + Drop, W: Sink>(
     out: &mut W,
     listing: &Listing<'_, A>,
 ) -> Result<Outcome, Refusal>
-    ensures { WritesText W.contents W.has_failed out.old out.new result
+    ensures { WritesText W.contents (calls_of W.has_failed W.flushes) out.old out.new result
         (listed_text listing.now (Rule.Scored (ScoredRule.Thiele ThieleRule.Av))) }
 {
     listing.write_rule(out, Rule::Scored(ScoredRule::Thiele(ThieleRule::Av)))?;
@@ -71,7 +73,7 @@ fn by_approvals<A: Allocator + Copy + Drop, W: Sink>(
     out: &mut W,
     listing: &Listing<'_, A>,
 ) -> Result<(), WriteFailed>
-    ensures { Sends W.contents W.has_failed out.old out.new (is_ok result)
+    ensures { SendsAll W.contents (calls_of W.has_failed W.flushes) out.old out.new (is_ok result)
         (winners_text listing.now (ScoredRule.Thiele ThieleRule.Av)) }
 {
     let tally = ApprovalTally::new(listing.profile, listing.size);
@@ -86,7 +88,7 @@ fn answer_thiele<A: Allocator + Copy + Drop, W: Sink>(
     rule: ThieleRule,
     listing: &Listing<'_, A>,
 ) -> Result<Outcome, Refusal>
-    ensures { WritesText W.contents W.has_failed out.old out.new result
+    ensures { WritesText W.contents (calls_of W.has_failed W.flushes) out.old out.new result
         (listed_text listing.now (Rule.Scored (ScoredRule.Thiele rule))) }
 {
     let memory = search_memory(alloc, rule, listing)?;
@@ -116,7 +118,7 @@ fn by_search<A: Allocator + Copy + Drop, W: Sink>(
     listing: &Listing<'_, A>,
 ) -> Result<(), WriteFailed>
     requires { memory ≡ thiele_of listing.now.profile.now rule listing.now.size }
-    ensures { Sends W.contents W.has_failed out.old out.new (is_ok result)
+    ensures { SendsAll W.contents (calls_of W.has_failed W.flushes) out.old out.new (is_ok result)
         (winners_text listing.now (ScoredRule.Thiele rule)) }
 {
     listing.write_searched(out, prepared(memory), ScoredRule::Thiele(rule))
@@ -136,7 +138,7 @@ fn answer_satisfaction<A: Allocator + Copy + Drop, W: Sink>(
     out: &mut W,
     listing: &Listing<'_, A>,
 ) -> Result<Outcome, Refusal>
-    ensures { WritesText W.contents W.has_failed out.old out.new result
+    ensures { WritesText W.contents (calls_of W.has_failed W.flushes) out.old out.new result
         (listed_text listing.now (Rule.Scored ScoredRule.Satisfaction)) }
 {
     listing.write_rule(out, Rule::Scored(ScoredRule::Satisfaction))?;
@@ -148,7 +150,7 @@ fn by_satisfaction<A: Allocator + Copy + Drop, W: Sink>(
     out: &mut W,
     listing: &Listing<'_, A>,
 ) -> Result<(), WriteFailed>
-    ensures { Sends W.contents W.has_failed out.old out.new (is_ok result)
+    ensures { SendsAll W.contents (calls_of W.has_failed W.flushes) out.old out.new (is_ok result)
         (winners_text listing.now ScoredRule.Satisfaction) }
 {
     let tally = SavTally::new(listing.profile);
@@ -162,7 +164,7 @@ fn answer_minimax<A: Allocator + Copy + Drop, W: Sink>(
     out: &mut W,
     listing: &Listing<'_, A>,
 ) -> Result<Outcome, Refusal>
-    ensures { WritesText W.contents W.has_failed out.old out.new result
+    ensures { WritesText W.contents (calls_of W.has_failed W.flushes) out.old out.new result
         (listed_text listing.now (Rule.Scored ScoredRule.Minimax)) }
 {
     let search = MinimaxSearch::new(alloc, listing.profile)?;
@@ -177,7 +179,7 @@ fn by_distance<A: Allocator + Copy + Drop, W: Sink>(
     listing: &Listing<'_, A>,
 ) -> Result<(), WriteFailed>
     requires { search ≡ listing.now.profile.now }
-    ensures { Sends W.contents W.has_failed out.old out.new (is_ok result)
+    ensures { SendsAll W.contents (calls_of W.has_failed W.flushes) out.old out.new (is_ok result)
         (winners_text listing.now ScoredRule.Minimax) }
 {
     listing.write_searched(out, search, ScoredRule::Minimax)
@@ -191,7 +193,7 @@ fn answer_sequential<A: Allocator + Copy + Drop, W: Sink>(
     rule: SeqRule,
     listing: &Listing<'_, A>,
 ) -> Result<Outcome, Refusal>
-    ensures { WritesText W.contents W.has_failed out.old out.new result
+    ensures { WritesText W.contents (calls_of W.has_failed W.flushes) out.old out.new result
         (listed_text listing.now (Rule.Sequential rule)) }
 {
     let families = Families::new(alloc, listing.profile, rule, listing.size)?;

@@ -3,7 +3,7 @@
 ghost use Rattle.std.specs.Prelude.{◌≡◌, ◌≢◌, ◌-◌, ℕ, List, Some, [], is_ok, option_map, false, true};
 ghost use Rattle.std.specs.Iterator.{YieldsFirstBy};
 ghost use Rattle.text_output.specs.Names.{Names};
-ghost use Rattle.text_output.specs.Steps.Printing.{Prints};
+ghost use Rattle.text_output.specs.Steps.Printing.{Prints, PrintsAll, calls_of};
 ghost use Rattle.vote_cli.specs.Listing.{allocation_line, answers_text, committee_line, has_more, last_line};
 
 use ballot_base::CandSet;
@@ -29,7 +29,7 @@ pub(crate) trait Answer: Drop {
         printer: &mut Printer<'_, W>,
         names: &Names<'_, N>,
     ) -> Result<(), WriteFailed>
-        ensures { Prints W.contents W.has_failed printer.old printer.new (is_ok result)
+        ensures { Prints W.contents (calls_of W.has_failed W.flushes) printer.old printer.new (is_ok result)
             (Self.line_of names.now (Self.numbers self.now)) };
 }
 
@@ -133,7 +133,7 @@ fn print_last<W: Sink, A: Answers>(
     printer: &mut Printer<'_, W>,
     answers: &mut A,
 ) -> Result<(), WriteFailed>
-    ensures { Prints W.contents W.has_failed printer.old printer.new (is_ok result)
+    ensures { Prints W.contents (calls_of W.has_failed W.flushes) printer.old printer.new (is_ok result)
         (last_line (has_more (Some 0) (A.left answers.old))) }
 {
     match answers.next_answer() {
@@ -175,7 +175,7 @@ impl<N: Allocator + Copy> AnswerPage<'_, N> {
         printer: &mut Printer<'_, W>,
         answers: &mut A,
     ) -> Result<(), WriteFailed>
-        ensures printed { Prints W.contents W.has_failed printer.old printer.new (is_ok result)
+        ensures printed { PrintsAll W.contents (calls_of W.has_failed W.flushes) printer.old printer.new (is_ok result)
             (answers_text (A.Answer.line_of self.now.names.now) self.now.limit (A.left answers.old)) }
         ensures nothing { is_ok result ≡ true → printer.new.pending.items ≡ [] }
     {
@@ -189,7 +189,7 @@ impl<N: Allocator + Copy> AnswerPage<'_, N> {
         printer: &mut Printer<'_, W>,
         answers: &mut A,
     ) -> Result<(), WriteFailed>
-        ensures { Prints W.contents W.has_failed printer.old printer.new (is_ok result)
+        ensures { Prints W.contents (calls_of W.has_failed W.flushes) printer.old printer.new (is_ok result)
             (answers_text (A.Answer.line_of self.now.names.now) self.now.limit (A.left answers.old)) }
     {
         let mut room = self.limit;
@@ -212,7 +212,7 @@ impl<N: Allocator + Copy> AnswerPage<'_, N> {
         answer: &A::Answer,
         number: u64,
     ) -> Result<(), WriteFailed>
-        ensures { Prints W.contents W.has_failed printer.old printer.new (is_ok result)
+        ensures { Prints W.contents (calls_of W.has_failed W.flushes) printer.old printer.new (is_ok result)
             (A.Answer.line_of self.now.names.now (A.Answer.numbers answer.now)) }
     {
         answer.print_line(printer, self.names)?;

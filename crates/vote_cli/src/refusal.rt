@@ -1,6 +1,6 @@
 //! Why a run ends without an answer, or with only a beginning of one.
 ghost use Rattle.std.specs.Prelude.{◌≡◌, ◌++◌, [], codes, is_ok};
-ghost use Rattle.text_output.specs.Steps.Printing.{Sends};
+ghost use Rattle.text_output.specs.Steps.Printing.{Sends, calls_of};
 ghost use Rattle.text_output.specs.Text.{line};
 ghost use Rattle.vote_cli.specs.FaultText.{fault_text};
 ghost use Rattle.vote_cli.specs.Steps.RequestFaults.{request_fault_word};
@@ -80,7 +80,7 @@ impl Refusal {
     }
 
     pub(crate) fn write<E: Sink>(self, err: &mut E) -> Result<(), WriteFailed>
-        ensures { Sends E.contents E.has_failed err.old err.new (is_ok result) (error_of self) }
+        ensures { Sends E.contents (calls_of E.has_failed E.flushes) err.old err.new (is_ok result) (error_of self) }
     {
         match self {
             Refusal::Input(fault) => write_input_fault(err, fault),
@@ -93,7 +93,8 @@ impl Refusal {
 }
 
 fn write_input_fault<E: Sink>(err: &mut E, fault: ReadFault) -> Result<(), WriteFailed>
-    ensures { Sends E.contents E.has_failed err.old err.new (is_ok result) (line (fault_text fault)) }
+    ensures { Sends E.contents (calls_of E.has_failed E.flushes) err.old err.new (is_ok result)
+        (line (fault_text fault)) }
 {
     let word = fault.name.name().as_bytes();
     let Some(number) = fault.line else {
@@ -111,7 +112,7 @@ fn write_input_fault<E: Sink>(err: &mut E, fault: ReadFault) -> Result<(), Write
 }
 
 fn write_request_fault<E: Sink>(err: &mut E, fault: RequestFault) -> Result<(), WriteFailed>
-    ensures { Sends E.contents E.has_failed err.old err.new (is_ok result)
+    ensures { Sends E.contents (calls_of E.has_failed E.flushes) err.old err.new (is_ok result)
         (line (codes "committees: request: " ++ request_fault_word fault)) }
 {
     write_pieces(err, &[b"committees: request: ", fault.word(), b"\n"])

@@ -5,6 +5,7 @@
 ghost use Rattle.std.specs.Prelude.{◌≡◌, ◌≢◌, Err, IfSome, true};
 ghost use Rattle.preflib_text.specs.Approvals.{HasNumber};
 ghost use Rattle.text_output.specs.Device.{reader_state, writer_state};
+ghost use Rattle.text_output.specs.Steps.Printing.{calls_of};
 ghost use Rattle.vote_cli.specs.Runs.{IsRight, LeavesRun, Reports, has_votes};
 ghost use Rattle.vote_cli.specs.Steps.Refusals.{WritesRight, ReadsBallots, ReadsOn};
 ghost use Rattle.vote_cli.specs.Steps.Refusals.{TellsOfReads, TellsOfWrites, error_of, status_of};
@@ -56,7 +57,8 @@ fn answer<A: Allocator + Copy + Drop, R: Source, W: Sink>(
         (W.contents out.old) (W.contents out.new) result }
     ensures reads { TellsOfReads request.now.task (reader_state R.remaining R.has_failed R.given reader.old)
         (reader_state R.remaining R.has_failed R.given reader.new) result }
-    ensures writes { TellsOfWrites (W.has_failed out.old) (W.has_failed out.new) result }
+    ensures writes { TellsOfWrites (calls_of W.has_failed W.flushes out.old)
+        (calls_of W.has_failed W.flushes out.new) result }
     ensures votes { has_votes request.now.task ≡ true → reader.new ≡ reader.old }
 {
     match request.task() {
@@ -77,8 +79,8 @@ fn answer<A: Allocator + Copy + Drop, R: Source, W: Sink>(
 
 fn refuse<E: Sink>(err: &mut E, refusal: Refusal) -> Status
     ensures status { result ≡ status_of refusal }
-    ensures error { Reports (writer_state E.contents E.has_failed err.old)
-        (writer_state E.contents E.has_failed err.new) (error_of refusal) }
+    ensures error { Reports (writer_state E.contents E.has_failed E.flushes err.old)
+        (writer_state E.contents E.has_failed E.flushes err.new) (error_of refusal) }
 {
     let _ = refusal.write(err);
     refusal.status()
@@ -98,7 +100,7 @@ pub fn run<A: Allocator + Copy + Drop, R: Source, W: Sink, E: Sink>(
     err: &mut E,
 ) -> Status
     ensures { LeavesRun (reader_state R.remaining R.has_failed R.given)
-        (writer_state W.contents W.has_failed) (writer_state E.contents E.has_failed)
+        (writer_state W.contents W.has_failed W.flushes) (writer_state E.contents E.has_failed E.flushes)
         request.now reader.old reader.new out.old out.new err.old err.new result }
 {
     let storage = Storage {
@@ -117,7 +119,7 @@ pub fn run_with_hashing<A: Allocator + Copy + Drop, R: Source, W: Sink, E: Sink>
     err: &mut E,
 ) -> Status
     ensures { LeavesRun (reader_state R.remaining R.has_failed R.given)
-        (writer_state W.contents W.has_failed) (writer_state E.contents E.has_failed)
+        (writer_state W.contents W.has_failed W.flushes) (writer_state E.contents E.has_failed E.flushes)
         request.now reader.old reader.new out.old out.new err.old err.new result }
 {
     match answer(storage, request, reader, out) {

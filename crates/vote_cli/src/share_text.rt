@@ -1,6 +1,6 @@
 //! The text of allocations of seats.
 ghost use Rattle.std.specs.Prelude.{◌≡◌, ◌++◌, is_ok};
-ghost use Rattle.text_output.specs.Steps.Printing.{Prints, Sends};
+ghost use Rattle.text_output.specs.Steps.Printing.{Prints, SendsAll, calls_of};
 ghost use Rattle.vote_cli.specs.Listing.{allocation_line, answers_text};
 ghost use Rattle.vote_cli.specs.ShareText.{share_header};
 
@@ -16,7 +16,8 @@ fn print_header<W: Sink>(
     method: Method,
     seats: u16,
 ) -> Result<(), WriteFailed>
-    ensures { Prints W.contents W.has_failed printer.old printer.new (is_ok result) (share_header method seats) }
+    ensures { Prints W.contents (calls_of W.has_failed W.flushes) printer.old printer.new (is_ok result)
+        (share_header method seats) }
 {
     let mut seat_digits = Buffer::new();
     let pieces = [
@@ -36,7 +37,7 @@ pub(crate) fn write_shares<W: Sink, N: Allocator + Copy>(
     sharing: &Sharing,
     names: &Names<'_, N>,
 ) -> Result<(), WriteFailed>
-    ensures { Sends W.contents W.has_failed out.old out.new (is_ok result)
+    ensures { SendsAll W.contents (calls_of W.has_failed W.flushes) out.old out.new (is_ok result)
         (share_header sharing.now.method sharing.now.seats
         ++ answers_text (allocation_line names.now) sharing.now.page.limit shares) }
 {

@@ -9,6 +9,7 @@ use Rattle.vote_cli.specs.declared.answers.Outcome.TheVariants as outcome
 use Rattle.vote_cli.specs.declared.refusal.Refusal.{Refusal}
 use Rattle.vote_cli.specs.declared.refusal.Refusal.TheVariants.{Input, Request, Memory, ReadFailed, WriteFailed}
 use Rattle.text_output.specs.Device.{AppendsBeginning, ReaderState}
+use Rattle.text_output.specs.Steps.Printing.{Calls, flushed_once}
 use Rattle.vote_cli.specs.Runs.{FailsToRead, IsAllRead, ReadsInput, ReadsSoundly, has_votes}
 use Rattle.vote_cli.specs.Runs.{memory_line, read_failed_line, write_failed_line}
 use Rattle.vote_cli.specs.Steps.RequestFaults.{request_fault_word}
@@ -70,10 +71,12 @@ IsUnread Memory = Unit {0}
 IsUnread ReadFailed = Unit {0}
 IsUnread refusal = ⊥
 
--- a call of the writer has failed exactly if the refusal is `WriteFailed`
-abbrev pub TellsOfWrites : {T : Type 0} → Bool → Bool → Result T Refusal → Type 0
-TellsOfWrites old new (Err WriteFailed) = new ≡ true
-TellsOfWrites old new result = new ≡ old
+-- A call of the writer has failed exactly if the refusal is `WriteFailed`. A writer that took an answer was flushed
+-- once, and one that took nothing was not.
+abbrev pub TellsOfWrites : {T : Type 0} → Calls → Calls → Result T Refusal → Type 0
+TellsOfWrites old new (Ok ended) = new ≡ flushed_once old
+TellsOfWrites old new (Err WriteFailed) = new.has_failed ≡ true
+TellsOfWrites old new (Err refusal) = new ≡ old
 
 -- What was written, by the result, if `IsRight` holds of the right answers: one of them whole, a beginning of one if a
 -- write failed, and otherwise nothing. A refusal for the input or the request is then a right answer.
@@ -89,11 +92,11 @@ WritesRight IsRight old new (Err ReadFailed) = Appends old new []
 WritesRight IsRight old new (Err WriteFailed) =
     (answer : Answer) × IsRight answer × AppendsBeginning old new answer.text
 
-module _ {W : Type 0} (contents : W → Option (List ℕ)) (has_failed : W → Bool) where
+module _ {W : Type 0} (contents : W → Option (List ℕ)) (calls : W → Calls) where
   -- how an answer was written, and that no reader is blamed
   pub record Writes (old new : W) (result : Result Outcome Refusal) (IsRight : Answer → Type 0) : Type 0 where
     pub answer : WritesRight IsRight (contents old) (contents new) result
-    pub writes : TellsOfWrites (has_failed old) (has_failed new) result
+    pub writes : TellsOfWrites (calls old) (calls new) result
     pub unread : result ≢ Err ReadFailed
 
   -- like `Writes`, if the right answer is the one with this text

@@ -1,8 +1,9 @@
 //! Which bytes each write of an answer is handed, so that a run shows early what it has found.
-ghost use Rattle.std.specs.Prelude.{None};
+ghost use Rattle.std.specs.Prelude.{None, length};
 
 use super::runs::{reader, writer};
 use super::support::{THREE, request, written_out};
+use preflib_text::Trace;
 use std::alloc::Global;
 use std::io;
 use std::io::ErrorKind;
@@ -14,6 +15,8 @@ use vote_cli::{Device, Sink, Status, run};
 struct Pieces {
     text: Vec<u8>,
     has_failed: bool,
+    /// A byte for each flush.
+    flushes: Trace,
 }
 
 impl Device for Pieces {
@@ -27,6 +30,8 @@ impl Device for Pieces {
 impl Sink for Pieces {
     ghost contents = { λ pieces. None };
 
+    ghost flushes = { λ pieces. length pieces.flushes.bytes };
+
     fn write(&mut self, buf: &[u8]) -> io::Result<usize> {
         if buf.is_empty() {
             return Ok(0);
@@ -39,6 +44,7 @@ impl Sink for Pieces {
     }
 
     fn flush(&mut self) -> io::Result<()> {
+        self.flushes.add(b"\n");
         Ok(())
     }
 }
@@ -49,6 +55,7 @@ fn pieces_of(rt: &impl Abort, alloc: Global, words: &str, bytes: &[u8]) -> Piece
     let mut out = Pieces {
         text: Vec::new(alloc),
         has_failed: false,
+        flushes: Trace::new(),
     };
     let status = run(
         alloc,

@@ -1,13 +1,13 @@
 use Rattle.std.proofs.Common.{◌∙◌, ◌<◌, ◌-◌, arith, length, drop, take, length-drop}
 use Rattle.std.proofs.lemmas.List.{take_rest}
-use Rattle.text_output.proofs.PrintingLemmas.{took-more, within-more, unfailed-write, failed-write, Appends-kept, Appends-none, Passes-part}
+use Rattle.text_output.proofs.PrintingLemmas.{same-calls, took-more, within-more, unfailed-write, failed-write, Appends-kept, Appends-none, Passes-part}
 use Rattle.text_output.proofs.printing.write_whole.Goals as goal
 
 pub loop-sent-preserved : goal.loop-sent-preserved
 loop-sent-preserved g c = record {
   within = within-more c.args.bytes.now c.loop-sent.sent c.in-Ok.n c.loop-sent.invariant.within c.in-Ok.ensures.bound;
   took = took-more _ _ _ c.args.bytes.now c.loop-sent.sent c.in-Ok.n c.loop-sent.invariant.took c.in-Ok.ensures.bytes;
-  unfailed = unfailed-write _ _ c.in-Ok.n _ c.if-n-gt0.true c.in-Ok.ensures.failed ∙ c.loop-sent.invariant.unfailed;
+  calls = same-calls _ _ (unfailed-write _ _ c.in-Ok.n _ c.if-n-gt0.true c.in-Ok.ensures.failed) c.in-Ok.ensures.flushes ∙ c.loop-sent.invariant.calls;
 }
 
 pub returns-in_default : goal.returns-in_default

@@ -7,7 +7,7 @@ pub returns-in-Ok-Answered : goal.returns-in-Ok-Answered
 returns-in-Ok-Answered g c =
     let h = rw c.in-Ok-Answered.field-0-is at c.in-Ok-Answered.ensures.answer in
     record {
-      ends = ends_answered c.args.request.now _ _ _ _ _ _ (answered h.0) h.1 refl refl c.in-Ok-Answered.ensures.reads c.in-Ok-Answered.ensures.writes h.2;
+      ends = ends_answered c.args.request.now _ _ _ _ _ _ (answered h.0) h.1 refl refl refl c.in-Ok-Answered.ensures.reads c.in-Ok-Answered.ensures.writes h.2;
       alone = c.in-Ok-Answered.ensures.votes;
     }
 
@@ -15,7 +15,7 @@ pub returns-in-Ok-Violated : goal.returns-in-Ok-Violated
 returns-in-Ok-Violated g c =
     let h = rw c.in-Ok-Violated.field-0-is at c.in-Ok-Violated.ensures.answer in
     record {
-      ends = ends_answered c.args.request.now _ _ _ _ _ _ (violated h.0) h.1 refl refl c.in-Ok-Violated.ensures.reads c.in-Ok-Violated.ensures.writes h.2;
+      ends = ends_answered c.args.request.now _ _ _ _ _ _ (violated h.0) h.1 refl refl refl c.in-Ok-Violated.ensures.reads c.in-Ok-Violated.ensures.writes h.2;
       alone = c.in-Ok-Violated.ensures.votes;
     }
 

@@ -1,8 +1,8 @@
 use Rattle.std.proofs.Common.{rules}
-use Rattle.text_output.proofs.PrintingLemmas.{Sends-by}
+use Rattle.text_output.proofs.PrintingLemmas.{SendsAll-by}
 use Rattle.vote_cli.proofs.elect_text.Listing.write_families.Goals as goal
 
 pub returns : goal.returns
 returns g c =
-    Sends-by c.new-printer.ensures.writer c.new-printer.ensures.nothing c.print.ensures.nothing (search rules)
+    SendsAll-by c.new-printer.ensures.writer c.new-printer.ensures.nothing c.print.ensures.nothing (search rules)
     (rw (c.page.ensures.names, c.page.ensures.limit) at c.print.ensures.printed)
