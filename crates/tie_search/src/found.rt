@@ -4,7 +4,7 @@
 //! that were listed, and from then on its value is looked for. If more tie than can be listed, the list stays full, and
 //! only higher values still count. A candidate that was tried with a set is no longer free to join it, so no committee
 //! is met twice.
-ghost use Rattle.std.specs.Prelude.{◌≡◌, ℕ, ◌^◌, ◌<◌, ◌≤◌, List};
+ghost use Rattle.std.specs.Prelude.{◌≡◌, ℕ, ◌^◌, ◌<◌, ◌≤◌, List, MatchOption};
 ghost use Rattle.tie_search.specs.Steps.Found.{Advances, AreListed, IsListed, IsSettled};
 
 use ballot_base::CandSet;
@@ -56,6 +56,13 @@ impl Found {
             committees: [CandSet::empty(); MOST_TIED],
             len: 0,
         }
+    }
+
+    /// The committee that is listed first.
+    pub fn first(&self) -> Option<CandSet>
+        ensures { MatchOption result (self.now.len ≡ 0) (λ committee. IsListed self.now committee) }
+    {
+        (self.len > 0).then_some(self.committees[0])
     }
 
     /// Takes a committee that is not listed yet, if its value is looked for. The value is at most 2^116.
