@@ -28,12 +28,12 @@ pub(crate) fn near_committee<A: Allocator + Copy>(profile: &Profile<A>, k: u8) -
 
 /// A nearer committee, with a candidate on a farthest ballot in the place of a member. Returns `None` if none is found.
 fn exchanged<A: Allocator + Copy>(profile: &Profile<A>, committee: CandSet) -> Option<CandSet> {
-    let (ballot, distance, count) = farthest(profile, committee);
-    for member in committee.minus(ballot).members() {
+    let farthest = Farthest::of(profile, committee);
+    for member in committee.minus(farthest.ballot).members() {
         let others = committee.without(member);
-        for candidate in ballot.minus(others).members() {
+        for candidate in farthest.ballot.minus(others).members() {
             let nearer = others.with(candidate);
-            if is_undercut(profile, nearer, distance, count) {
+            if farthest.is_undercut(profile, nearer) {
                 return Some(nearer);
             }
         }
@@ -42,36 +42,48 @@ fn exchanged<A: Allocator + Copy>(profile: &Profile<A>, committee: CandSet) -> O
 }
 
 /// A farthest ballot from a committee, its distance, and how many different ballots have this distance.
-fn farthest<A: Allocator + Copy>(profile: &Profile<A>, set: CandSet) -> (CandSet, u8, u64) {
-    let mut farthest = (set, 0, 0u64);
-    for (ballot, _voters) in profile.ballots() {
-        let distance = ballot.distance(set);
-        if distance > farthest.1 {
-            farthest = (ballot, distance, 0);
-        }
-        if distance == farthest.1 {
-            farthest.2 = farthest.2.saturating_add(1);
-        }
-    }
-    farthest
-}
-
-/// Whether fewer than `count` ballots have this distance from a committee, and no ballot is farther.
-fn is_undercut<A: Allocator + Copy>(
-    profile: &Profile<A>,
-    committee: CandSet,
+#[derive(Clone, Copy)]
+struct Farthest {
+    ballot: CandSet,
     distance: u8,
     count: u64,
-) -> bool {
-    let mut spare = count;
-    for (ballot, _voters) in profile.ballots() {
-        let apart = ballot.distance(committee);
-        if apart == distance {
-            spare = spare.saturating_sub(1);
+}
+
+impl Farthest {
+    fn of<A: Allocator + Copy>(profile: &Profile<A>, committee: CandSet) -> Farthest {
+        let mut farthest = Farthest {
+            ballot: committee,
+            distance: 0,
+            count: 0,
+        };
+        for (ballot, _voters) in profile.ballots() {
+            let distance = ballot.distance(committee);
+            if distance > farthest.distance {
+                farthest = Farthest {
+                    ballot,
+                    distance,
+                    count: 0,
+                };
+            }
+            if distance == farthest.distance {
+                farthest.count = farthest.count.saturating_add(1);
+            }
         }
-        if apart > distance || spare == 0 {
-            return false;
-        }
+        farthest
     }
-    true
+
+    /// Whether fewer ballots have this distance from another committee, and no ballot is farther.
+    fn is_undercut<A: Allocator + Copy>(&self, profile: &Profile<A>, other: CandSet) -> bool {
+        let mut spare = self.count;
+        for (ballot, _voters) in profile.ballots() {
+            let apart = ballot.distance(other);
+            if apart == self.distance {
+                spare = spare.saturating_sub(1);
+            }
+            if apart > self.distance || spare == 0 {
+                return false;
+            }
+        }
+        true
+    }
 }

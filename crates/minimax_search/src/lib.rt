@@ -2,7 +2,7 @@
 //!
 //! `MinimaxSearch` finds a committee that is near each ballot, if there is one. `needs` computes the hits that a ballot
 //! needs for that. `search` narrows the sets of `tie_search::descent`, by `weights` of ballots that are moved if that
-//! pays. `good` finds a committee to begin with.
+//! pays. `good` finds a committee to begin with. If a search lasts, `walk` looks for one that ends it.
 //! `tie_search::SearchWinners` asks for one winner after another.
 #![tactic(auto)]
 
@@ -11,6 +11,7 @@ pub mod laws;
 pub mod minimax;
 mod needs;
 mod search;
+mod walk;
 mod weights;
 
 pub use minimax::MinimaxSearch;

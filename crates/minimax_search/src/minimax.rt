@@ -1,17 +1,20 @@
 //! Minimax approval voting as values that can be searched.
-ghost use Rattle.std.specs.Prelude.{◌≡◌, IfOk};
+ghost use Rattle.std.specs.Prelude.{◌≡◌, IfOk, MatchOption, ⊤};
+ghost use Rattle.row_multipliers.specs.Completions.{IsNode, IsReaching};
 ghost use Rattle.ballot_base.specs.Clones.{clones_among, AreClones};
 ghost use Rattle.tie_walk.specs.Ceilings.{closeness_upto};
 ghost use Rattle.tie_walk.specs.Values.{closeness};
 ghost use Rattle.ballot_base.specs.Ballots.{Election, IsElection};
 
 use crate::good::near_committee;
+use crate::walk::Walk;
 use crate::weights::{FIRST_WEIGHT, Shares};
 use ballot_base::{CandSet, Clones, Profile};
 use row_multipliers::multipliers::Multipliers;
 use row_multipliers::{Moves, Node};
 use std::alloc::{AllocError, Allocator, Global};
 use std::marker::Model;
+use tie_search::descent::GivenUp;
 use tie_search::{Searchable, Tied, WithClones, descent};
 use tie_walk::{MinimaxTally, Tally};
 
@@ -39,6 +42,10 @@ impl<'a, A: Allocator + Copy> Model for MinimaxSearch<'a, A> {
 /// at one of the first. With 1, 20 random candidates and 10 seats took 37 % more instructions. Any number is right.
 const ROUND: u64 = 2;
 
+/// The number of sets of a short search. If a search lasts, a walk often finds sooner what is looked for; then five
+/// parties took a twentieth of the time. Any number is right.
+const SHORT_SEARCH: u64 = 500;
+
 impl<'a, A: Allocator + Copy + Drop> MinimaxSearch<'a, A> {
     /// Prepares a search among the committees of a profile's candidates. It takes 24 bytes for each different ballot,
     /// and a search takes no more. A failed allocation leaves nothing.
@@ -52,6 +59,27 @@ impl<'a, A: Allocator + Copy + Drop> MinimaxSearch<'a, A> {
             weights: Multipliers::of(alloc, profile.rows(), FIRST_WEIGHT)?,
             moves: Moves::new(ROUND),
         })
+    }
+}
+
+impl<A: Allocator + Copy> MinimaxSearch<'_, A> {
+    /// A completion of a node that a walk has reached, whose value is at least `least`. There may be others.
+    fn reached(&self, node: &Node, least: u128) -> Option<CandSet>
+        requires is_node { IsNode self.now.m node.now.set node.now.free }
+        ensures { MatchOption result ⊤ (IsReaching (closeness self.now.m self.now.rows) self.now.m node.now.set
+            node.now.free node.now.left least) }
+    {
+        let m = self.m();
+        if least > u128::from(m) {
+            return None;
+        }
+        let members = Walk::from(self.profile, node).reaching(m - least as u8)?;
+        let committee = node.set.union(node.free.common(members));
+        let size = u16::from(node.set.len()) + u16::from(node.left);
+        if u16::from(committee.len()) != size {
+            return None;
+        }
+        (self.value(committee) >= least).then_some(committee)
     }
 }
 
@@ -90,7 +118,13 @@ impl<'a, A: Allocator + Copy> Searchable for MinimaxSearch<'a, A> {
     }
 
     fn find(&self, node: &Node, least: u128) -> Option<CandSet> {
-        descent::find(self, *node, least)
+        match descent::find_within(self, *node, least, SHORT_SEARCH) {
+            Ok(found) => found,
+            Err(GivenUp) => match self.reached(node, least) {
+                Some(committee) => Some(committee),
+                None => descent::find(self, *node, least),
+            },
+        }
     }
 
     // Thousands of committees tie under this rule. Listing them took up to four times the instructions until the first
