@@ -21,7 +21,7 @@ use Rattle.group_check.specs.declared.property.Property.TheVariants.{Jr, Pjr, Ej
 use Rattle.group_check.specs.declared.property.Violation.{Violation}
 use Rattle.group_check.specs.Groups.{member_ballots}
 use Rattle.group_check.specs.Report.{violation_of, fits_pair, group_of, pair_group, lists_within, lists_shared, pair_breaks, first_violation}
-use Rattle.group_check.specs.Steps.Checking.{IsChoice, IsFirst, IsSecond, shared_size, may_share, is_possible, first_of, first_of_lists, pairs_of, sublists, completions, is_large, is_below, is_around, is_enough_within, voters_below, voters_around, possible_candidates}
+use Rattle.group_check.specs.Steps.Checking.{IsTail, IsChoice, IsFirst, IsSecond, shared_size, may_share, first_of, first_of_lists, pairs_of, sublists, completions, is_large, is_below, is_around, is_enough_within, voters_around}
 use Rattle.ballot_base.proofs.Included.{kept_all}
 use Rattle.ballot_base.proofs.ListLemmas.{AllByRecursion-weaker}
 use Rattle.group_check.proofs.SetLemmas.{passes_at, length-within, length-common_members}
@@ -30,7 +30,7 @@ use Rattle.group_check.proofs.GroupLemmas.{group_of-group, group_of-pass, group-
 use Rattle.group_check.proofs.BreakLemmas.{any_may, large_more, pair_breaks-is}
 use Rattle.group_check.proofs.CountedLemmas.{first_of-append}
 use Rattle.group_check.proofs.PlaceLemmas.{kept_lists, lists_of_members, AllByRecursion-filter}
-use Rattle.group_check.proofs.WalkLemmas.{with_member-end, IsIncreasing-rest, IsTail, AllByRecursion-map, none_passes, tails, whole, split_lists, too_few_below}
+use Rattle.group_check.proofs.WalkLemmas.{with_member-end, IsIncreasing-rest, AllByRecursion-map, none_passes, tails, whole, split_lists, too_few_below}
 
 -- ---- groups of which each voter of one belongs to the other
 
@@ -50,7 +50,7 @@ sum-weaker test other (row ∷ rows) all =
       sum-weaker test other rows all.1,
     )
 
-no_longer : (a b : Bool) → (a ≡ true → b ≡ true) → b ≡ false → a ≡ false
+pub no_longer : (a b : Bool) → (a ≡ true → b ≡ true) → b ≡ false → a ≡ false
 no_longer true b more e = let clash : true ≡ false = sym (more refl) ∙ e in cc
 no_longer false b more e = refl
 
@@ -63,7 +63,7 @@ too_small e committee level test other more =
     (large_more e committee level (sum (group_of test e.rows)) (sum (group_of other e.rows)) (sum-weaker test other e.rows more))
 
 -- where each ballot of the one is one of the other
-small_ballots : (e : Election) (committee : List ℕ) (level : ℕ) (test other : List ℕ → Bool) → IsElection e
+pub small_ballots : (e : Election) (committee : List ℕ) (level : ℕ) (test other : List ℕ → Bool) → IsElection e
     → ((ballot : List ℕ) → IsIncreasing 1 e.m ballot → test ballot ≡ true → other ballot ≡ true)
     → is_large e committee level (sum (group_of other e.rows)) ≡ false → is_large e committee level (sum (group_of test e.rows)) ≡ false
 small_ballots e committee level test other valid more =
@@ -99,7 +99,7 @@ small_pair EjrPlus e committee level pair few =
 
 -- ---- beginnings of U
 
-has_second : (a b : List ℕ) (n : ℕ) → has_member (a ++ b) n ≡ true → not (has_member a n) ≡ true → has_member b n ≡ true
+pub has_second : (a b : List ℕ) (n : ℕ) → has_member (a ++ b) n ≡ true → not (has_member a n) ≡ true → has_member b n ≡ true
 has_second a b n h k = second (has_member a n) (has_member b n) (sym (list_any-append (λ x. x == n) a b) ∙ h) k
   where
     second : (p q : Bool) → (p || q) ≡ true → not p ≡ true → q ≡ true
@@ -107,7 +107,7 @@ has_second a b n h k = second (has_member a n) (has_member b n) (sym (list_any-a
     second false q h k = h
 
 -- a voter whose approved members lie in U stays within what can become U
-stays : (m : ℕ) (committee shared within pool : List ℕ) (left level : ℕ) (tail ballot : List ℕ) → IsTail 1 m pool left tail → IsIncreasing 1 m ballot
+pub stays : (m : ℕ) (committee shared within pool : List ℕ) (left level : ℕ) (tail ballot : List ℕ) → IsTail 1 m pool left tail → IsIncreasing 1 m ballot
     → fits_pair Pjr committee level (shared, within ++ tail) ballot ≡ true → is_around committee shared within pool left ballot ≡ true
 stays m committee shared within pool left level tail ballot is i fits =
     let approved = common_members ballot committee in
@@ -183,44 +183,8 @@ module _ (e : Election) (committee : List ℕ) (level : ℕ) (shared : List ℕ)
 
 -- ---- beginnings of T
 
-includes-front : (ballot shared : List ℕ) (x : ℕ) (tail : List ℕ) → includes ballot (shared ++ x ∷ tail) ≡ true → includes ballot (x ∷ shared) ≡ true
-includes-front ballot shared x tail h =
-    let parts = and_parts (includes ballot shared) (includes ballot (x ∷ tail)) (sym (list_all-append (has_member ballot) shared (x ∷ tail)) ∙ h) in
-    and_from (has_member ballot x) (includes ballot shared) (and_parts (has_member ballot x) (includes ballot tail) parts.1).0 parts.0
-
--- a ballot that supports T and U has fewer members than the level
-few_members : (property : Property) (m : ℕ) (committee : List ℕ) (level : ℕ) (pair : List ℕ × List ℕ) (ballot : List ℕ) → 1 ≤ level → IsSecond property m level pair.1 → IsIncreasing 1 m ballot
-    → fits_pair property committee level pair ballot ≡ true → (includes ballot pair.0 ≡ true) × (nat_lt (length (common_members ballot committee)) level ≡ true)
-few_members Jr m committee level pair ballot least second i h =
-    let parts = and_parts (includes ballot pair.0) (nat_lt (hits ballot committee) level) h in
-    (parts.0, ap (λ n. nat_lt n level) (length-common_members ballot committee) ∙ parts.1)
-few_members Ejr m committee level pair ballot least second i h =
-    let parts = and_parts (includes ballot pair.0) (nat_lt (hits ballot committee) level) h in
-    (parts.0, ap (λ n. nat_lt n level) (length-common_members ballot committee) ∙ parts.1)
-few_members EjrPlus m committee level pair ballot least second i h =
-    let parts = and_parts (includes ballot pair.0) (nat_lt (hits ballot committee) level) h in
-    (parts.0, ap (λ n. nat_lt n level) (length-common_members ballot committee) ∙ parts.1)
-few_members Pjr m committee level pair ballot least second i h =
-    let approved = common_members ballot committee in
-    let parts = and_parts (includes ballot pair.0) (includes pair.1 approved) h in
-    let few = length-within 1 m approved pair.1 (IsIncreasing-filter (has_member committee) 1 m ballot i) second.0
-    (λ n k. passes_at (has_member pair.1) approved n parts.1 k) in
-    let size = second.1 in
-    (parts.0, lt-ltb (length approved) level (omega (arith, few, size, least)))
-
 module _ (property : Property) (e : Election) (committee : List ℕ) (level : ℕ) where
-  -- no pair breaks the property where candidates of its T have too few voters below the level
-  small_front : (front shared within : List ℕ) → IsElection e → 1 ≤ level → IsSecond property e.m level within
-      → ((ballot : List ℕ) → includes ballot shared ≡ true → includes ballot front ≡ true)
-      → is_large e committee level (sum (voters_below e committee level front)) ≡ false → pair_breaks property e committee level (shared, within) ≡ false
-  small_front front shared within valid least second part few =
-      small_pair property e committee level (shared, within)
-      (small_ballots e committee level (fits_pair property committee level (shared, within)) (is_below committee level front) valid
-      (λ ballot i h.
-      let known = few_members property e.m committee level (shared, within) ballot least second i h in
-      and_from (includes ballot front) (nat_lt (length (common_members ballot committee)) level) (part ballot known.0) known.1) few)
-
-  no_pair : (shared : List ℕ) (lists : List (List ℕ)) → AllByRecursion (λ within. pair_breaks property e committee level (shared, within) ≡ false) lists
+  pub no_pair : (shared : List ℕ) (lists : List (List ℕ)) → AllByRecursion (λ within. pair_breaks property e committee level (shared, within) ≡ false) lists
       → None ≡ first_of property e committee level (pairs_of shared lists)
   no_pair shared [] all = refl
   no_pair shared (within ∷ lists) all =
@@ -245,7 +209,7 @@ module _ {X : Type 0} where
       cases false more h = more h
 
 -- a set that does not pass as a whole has a member that does not
-fails_at : (p : ℕ → Bool) (set : List ℕ) → list_all p set ≡ false → (n : ℕ) × (has_member set n ≡ true) × (p n ≡ false)
+pub fails_at : (p : ℕ → Bool) (set : List ℕ) → list_all p set ≡ false → (n : ℕ) × (has_member set n ≡ true) × (p n ≡ false)
 fails_at p [] h = cc
 fails_at p (x ∷ xs) h = cases (p x) refl (λ k. fails_at p xs k) h
   where
@@ -254,14 +218,14 @@ fails_at p (x ∷ xs) h = cases (p x) refl (λ k. fails_at p xs k) h
     cases true e more h = let later = more h in (later.0, or_right (x == later.0) (has_member xs later.0) later.1, later.2)
     cases false e more h = (x, has_member_head x xs, e)
 
-seconds_fit : (property : Property) (m : ℕ) (committee : List ℕ) (level : ℕ) → AllByRecursion (IsSecond property m level) (lists_within property m committee level)
+pub seconds_fit : (property : Property) (m : ℕ) (committee : List ℕ) (level : ℕ) → AllByRecursion (IsSecond property m level) (lists_within property m committee level)
 seconds_fit Jr m committee level = (tt, tt)
 seconds_fit Pjr m committee level =
     AllByRecursion-filter (IsChoice m (level - 1)) (includes committee) (increasing_lists 1 m (level - 1)) (increasing_lists-chosen 1 m (level - 1))
 seconds_fit Ejr m committee level = (tt, tt)
 seconds_fit EjrPlus m committee level = (tt, tt)
 
-same_lists_of : (lists : List (List ℕ)) → map (λ rest. [] ++ rest) lists ≡ lists
+pub same_lists_of : (lists : List (List ℕ)) → map (λ rest. [] ++ rest) lists ≡ lists
 same_lists_of [] = refl
 same_lists_of (list ∷ lists) = ap (λ ls. list ∷ ls) (same_lists_of lists)
 
@@ -274,7 +238,7 @@ all_kept [] = refl
 all_kept (list ∷ lists) = let here = any_may list in rw here (ap (λ ls. list ∷ ls) (all_kept lists))
 
 -- the lists T of a level are those all of whose candidates can stand in one
-lists_shared-is : (property : Property) (m : ℕ) (committee : List ℕ) (level : ℕ)
+pub lists_shared-is : (property : Property) (m : ℕ) (committee : List ℕ) (level : ℕ)
     → lists_shared property m committee level ≡ filter (list_all (may_share property committee)) (increasing_lists 1 m (shared_size property level))
 lists_shared-is Jr m committee level = all_kept (increasing_lists 1 m level)
 lists_shared-is Pjr m committee level = all_kept (increasing_lists 1 m level)
@@ -294,7 +258,7 @@ module _ (property : Property) (e : Election) (committee : List ℕ) (level : �
       first_of-append property e committee level (pairs_of shared (lists_within property e.m committee level))
       (flat_map (λ first. pairs_of first (lists_within property e.m committee level)) lists)
 
-  no_lists : (lists : List (List ℕ))
+  pub no_lists : (lists : List (List ℕ))
       → AllByRecursion (λ shared. None ≡ first_of property e committee level (pairs_of shared (lists_within property e.m committee level))) lists
       → None ≡ first_of_lists property e committee level lists
   no_lists [] all = refl
@@ -302,30 +266,6 @@ module _ (property : Property) (e : Election) (committee : List ℕ) (level : �
       no_lists lists all.1
       ∙ ap (λ o. option_or o (first_of_lists property e committee level lists)) all.0
       ∙ sym (lists_step shared lists)
-
-  -- no T with these candidates shows a violation, where too few voters who approve them are below the level
-  none_with : (front shared : List ℕ) → IsElection e → 1 ≤ level
-      → ((ballot : List ℕ) → includes ballot shared ≡ true → includes ballot front ≡ true)
-      → is_large e committee level (sum (voters_below e committee level front)) ≡ false
-      → None ≡ first_of property e committee level (pairs_of shared (lists_within property e.m committee level))
-  none_with front shared valid least part few =
-      no_pair property e committee level shared (lists_within property e.m committee level)
-      (AllByRecursion-weaker (IsSecond property e.m level) (λ within. pair_breaks property e committee level (shared, within) ≡ false)
-      (λ within second. small_front property e committee level front shared within valid least second part few)
-      (lists_within property e.m committee level) (seconds_fit property e.m committee level))
-
-  -- no T is below a beginning with too few voters
-  pub none_below : (shared : List ℕ) (x : ℕ) (rest : List ℕ) (left : ℕ) → IsElection e → 1 ≤ level → IsIncreasing 1 e.m (shared ++ x ∷ rest)
-      → is_large e committee level (sum (voters_below e committee level (x ∷ shared))) ≡ false
-      → None ≡ first_of_lists property e committee level (completions (with_member shared x) rest left)
-  none_below shared x rest left valid least order few =
-      let more = with_member shared x in
-      no_lists (completions more rest left)
-      (AllByRecursion-map (λ list. None ≡ first_of property e committee level (pairs_of list (lists_within property e.m committee level)))
-      (λ tail. more ++ tail) (sublists rest left)
-      (all_of (λ tail. None ≡ first_of property e committee level (pairs_of (more ++ tail) (lists_within property e.m committee level)))
-      (λ tail. none_with (x ∷ shared) (more ++ tail) valid least
-      (λ ballot h. includes-front ballot shared x tail (rw (with_member-end 1 e.m shared x rest order, append_assoc shared (x ∷ []) tail) at h)) few) (sublists rest left)))
 
   pub none_from_few : (front pool : List ℕ) (left : ℕ) → length pool < left → None ≡ first_of_lists property e committee level (completions front pool left)
   none_from_few front pool left h = ap (first_of_lists property e committee level) (sym (too_few_below front pool left h))
@@ -354,48 +294,17 @@ module _ (property : Property) (e : Election) (committee : List ℕ) (level : �
       append_lists (completions (with_member front x) rest (left - 1)) (completions front rest left)
       ∙ ap (first_of_lists property e committee level) (sym (split_lists e.m front x rest left i some))
 
-  kept_lists_of : (p q : List ℕ → Bool) → ((shared : List ℕ) → p shared ≡ true → q shared ≡ true)
-      → ((shared : List ℕ) → q shared ≡ true → p shared ≡ false → None ≡ first_of property e committee level (pairs_of shared (lists_within property e.m committee level)))
-      → (lists : List (List ℕ)) → first_of_lists property e committee level (filter p lists) ≡ first_of_lists property e committee level (filter q lists)
-  kept_lists_of p q more left [] = refl
-  kept_lists_of p q more left (shared ∷ lists) = cases (p shared) refl (q shared) refl (kept_lists_of p q more left lists)
-    where
-      cases : (a : Bool) → p shared ≡ a → (b : Bool) → q shared ≡ b
-          → first_of_lists property e committee level (filter p lists) ≡ first_of_lists property e committee level (filter q lists)
-          → first_of_lists property e committee level (cond a (shared ∷ filter p lists) (filter p lists)) ≡ first_of_lists property e committee level (cond b (shared ∷ filter q lists) (filter q lists))
-      cases true h true k rest =
-          lists_step shared (filter p lists)
-          ∙ ap (option_or (first_of property e committee level (pairs_of shared (lists_within property e.m committee level)))) rest
-          ∙ sym (lists_step shared (filter q lists))
-      cases true h false k rest = let clash : true ≡ false = sym (more shared h) ∙ k in cc
-      cases false h true k rest =
-          rest
-          ∙ ap (λ o. option_or o (first_of_lists property e committee level (filter q lists))) (left shared k h)
-          ∙ sym (lists_step shared (filter q lists))
-      cases false h false k rest = rest
-
-  -- candidates with too few voters stand in no T
-  pub from_possible : IsElection e → 1 ≤ level
-      → first_of_lists property e committee level (completions [] (possible_candidates property e committee level) (shared_size property level)) ≡ first_violation property e committee level
-  from_possible valid least =
-      let live = is_possible property e committee level in
+  -- from the start, the lists below are all of them
+  pub from_nothing : first_of_lists property e committee level (completions [] (filter (may_share property committee) (range_with_len 1 e.m)) (shared_size property level)) ≡ first_violation property e committee level
+  from_nothing =
       let may = may_share property committee in
       let size = shared_size property level in
       let count : e.m + 1 - 1 ≡ e.m = omega arith in
       ap (first_of_lists property e committee level)
-      (same_lists_of (sublists (possible_candidates property e committee level) size)
-      ∙ ap (λ n. sublists (filter live (range_with_len 1 n)) size) (sym count)
-      ∙ sym (kept_lists live (e.m + 1 - 1) 1 size))
-      ∙ kept_lists_of (list_all live) (list_all may)
-      (λ shared h. list_all-weaker live may (λ c k. (and_parts (may c) (is_large e committee level (sum (voters_below e committee level (c ∷ [])))) k).0) shared h)
-      (λ shared h k.
-      let bad = fails_at live shared k in
-      let large = is_large e committee level (sum (voters_below e committee level (bad.0 ∷ []))) in
-      none_with (bad.0 ∷ []) shared valid least
-      (λ ballot all. and_from (has_member ballot bad.0) true (passes_at (has_member ballot) shared bad.0 all bad.1) refl)
-      (second_fails (may bad.0) large bad.2 (passes_at may shared bad.0 h bad.1)))
-      (increasing_lists 1 e.m size)
-      ∙ ap (first_of_lists property e committee level) (sym (lists_shared-is property e.m committee level))
+      (same_lists_of (sublists (filter may (range_with_len 1 e.m)) size)
+      ∙ ap (λ n. sublists (filter may (range_with_len 1 n)) size) (sym count)
+      ∙ sym (kept_lists may (e.m + 1 - 1) 1 size)
+      ∙ sym (lists_shared-is property e.m committee level))
 
 -- ---- the lists U beside one T
 
@@ -410,30 +319,6 @@ module _ (e : Election) (committee : List ℕ) (level : ℕ) where
       (λ within few. small_pair Pjr e committee level (shared, within) few) (lists_within Pjr e.m committee level)
       (none_found (is_enough_within e committee level shared) (lists_within Pjr e.m committee level)
       (ap (find (is_enough_within e committee level shared)) (sym (below_nothing e.m (level - 1) committee i)) ∙ none)))
-
-  -- where no list U has enough voters, whatever they share, no pair breaks the property
-  pub none_at_all : IsIncreasing 1 e.m committee
-      → find (is_enough_within e committee level []) (completions [] committee (level - 1)) ≡ None → first_violation Pjr e committee level ≡ None
-  none_at_all i none =
-      let seconds = lists_within Pjr e.m committee level in
-      let few = none_found (is_enough_within e committee level []) seconds
-      (ap (find (is_enough_within e committee level [])) (sym (below_nothing e.m (level - 1) committee i)) ∙ none) in
-      sym (no_lists Pjr e committee level (increasing_lists 1 e.m level)
-      (all_of (λ shared. None ≡ first_of Pjr e committee level (pairs_of shared seconds))
-      (λ shared. no_pair Pjr e committee level shared seconds
-      (AllByRecursion-weaker (λ within. is_enough_within e committee level [] within ≡ false) (λ within. pair_breaks Pjr e committee level (shared, within) ≡ false)
-      (λ within small. small_pair Pjr e committee level (shared, within) (fewer shared within small)) seconds few))
-      (increasing_lists 1 e.m level)))
-    where
-      fewer : (shared within : List ℕ) → is_large e committee level (sum (pair_group Pjr e committee level ([], within))) ≡ false
-          → is_large e committee level (sum (pair_group Pjr e committee level (shared, within))) ≡ false
-      fewer shared within =
-          let test = fits_pair Pjr committee level (shared, within) in
-          let other = fits_pair Pjr committee level ([], within) in
-          no_longer (is_large e committee level (sum (pair_group Pjr e committee level (shared, within)))) (is_large e committee level (sum (pair_group Pjr e committee level ([], within))))
-          (large_more e committee level (sum (pair_group Pjr e committee level (shared, within))) (sum (pair_group Pjr e committee level ([], within)))
-          (group-le other e.rows (group_of test e.rows) (group_of-group test e.rows)
-          (list_all-weaker test other (λ b h. (and_parts (includes b shared) (includes within (common_members b committee)) h).1) (member_ballots e.rows (group_of test e.rows)) (group_of-pass test e.rows))))
 
   -- the first U with enough voters is that of the first pair
   pairs_beside : (shared : List ℕ) (lists : List (List ℕ)) → AllByRecursion (λ within. pair_breaks Pjr e committee level (shared, within) ≡ is_enough_within e committee level shared within) lists
@@ -471,39 +356,20 @@ module _ (e : Election) (committee : List ℕ) (level : ℕ) where
       ∙ sym (pairs_beside shared seconds
       (AllByRecursion-weaker (IsSecond Pjr e.m level) (λ u. pair_breaks Pjr e committee level (shared, u) ≡ suits u) is seconds (seconds_fit Pjr e.m committee level))))
 
--- ---- the candidates so far
+-- ---- candidates that may be shared
 
--- one candidate more
-pub possible_more : (p : ℕ → Bool) (c : ℕ) (pool next : List ℕ) → 1 ≤ c → pool ≡ filter p (range_with_len 1 (c - 1))
-    → ((p c ≡ true) × (next ≡ with_member pool c)) ⊎ ((p c ≡ false) × (next ≡ pool)) → next ≡ filter p (range_with_len 1 c)
-possible_more p c pool next least is choice =
-    let back : c - 1 + 1 ≡ c = omega arith in
-    let here : 1 + (c - 1) ≡ c = omega arith in
-    let inc : IsIncreasing 1 (c - 1) pool = subst (IsIncreasing 1 (c - 1)) (sym is) (IsIncreasing-filter p 1 (c - 1) (range_with_len 1 (c - 1)) (IsIncreasing-range 1 (c - 1) (c - 1) (omega arith))) in
-    let split : range_with_len 1 c ≡ range_with_len 1 (c - 1) ++ c ∷ [] =
-    ap (range_with_len 1) (sym back) ∙ sym (map-id (range_with_len 1 (c - 1 + 1))) ∙ map-range_with_len_more (λ (x : ℕ). x) 1 (c - 1) c here
-    ∙ ap (λ s. s ++ c ∷ []) (map-id (range_with_len 1 (c - 1))) in
-    let parts = ap (filter p) split ∙ filter-append p (range_with_len 1 (c - 1)) (c ∷ []) in
-    elim choice [
-      | inl kept ↦ kept.1 ∙ with_member-above 1 (c - 1) pool c inc (omega arith) ∙ ap (λ s. s ++ c ∷ []) is ∙ ap (λ b. filter p (range_with_len 1 (c - 1)) ++ cond b (c ∷ []) []) (sym kept.0) ∙ sym parts
-      | inr left ↦ left.1 ∙ is ∙ sym (append-nil (filter p (range_with_len 1 (c - 1)))) ∙ ap (λ b. filter p (range_with_len 1 (c - 1)) ++ cond b (c ∷ []) []) (sym left.0) ∙ sym parts
-    ]
+kept_same : (set : List ℕ) → set ≡ filter (λ (c : ℕ). true) set
+kept_same [] = refl
+kept_same (x ∷ xs) = ap (λ s. x ∷ s) (kept_same xs)
 
-pub nothing_there : {X : Type 0} (found : Option X) (none : Bool) → is_some found ≡ not none → IsTrue none → found ≡ None
-nothing_there None none e h = refl
-nothing_there (Some x) true e h = cc
-nothing_there (Some x) false e h = cc
-
-pub possible_order : (property : Property) (e : Election) (committee : List ℕ) (level : ℕ) → IsIncreasing 1 e.m (possible_candidates property e committee level)
-possible_order property e committee level =
-    IsIncreasing-filter (is_possible property e committee level) 1 e.m (range_with_len 1 e.m) (IsIncreasing-range 1 e.m e.m (omega arith))
-
-pub possible_share : (property : Property) (e : Election) (committee : List ℕ) (level : ℕ) → list_all (may_share property committee) (possible_candidates property e committee level) ≡ true
-possible_share property e committee level =
-    let live = is_possible property e committee level in
-    list_all-weaker live (may_share property committee)
-    (λ c h. (and_parts (may_share property committee c) (is_large e committee level (sum (voters_below e committee level (c ∷ [])))) h).0)
-    (filter live (range_with_len 1 e.m)) (list_all-filter live (range_with_len 1 e.m))
+-- all, but for EJR+
+pub all_may : (property : Property) (committee set : List ℕ) → (property ≡ Jr) ⊎ ((property ≡ Pjr) ⊎ (property ≡ Ejr)) → set ≡ filter (may_share property committee) set
+all_may Jr committee set is = kept_same set
+all_may Pjr committee set is = kept_same set
+all_may Ejr committee set is = kept_same set
+all_may EjrPlus committee set (inl jr) = cc
+all_may EjrPlus committee set (inr (inl pjr)) = cc
+all_may EjrPlus committee set (inr (inr ejr)) = cc
 
 -- a list all of whose candidates can stand in T, with one left out
 pub share_without : (p : ℕ → Bool) (front : List ℕ) (x : ℕ) (rest : List ℕ) → list_all p (front ++ x ∷ rest) ≡ true → list_all p (front ++ rest) ≡ true

@@ -1,5 +1,5 @@
 -- The first violation of several pairs, and of one.
-use Rattle.std.proofs.Common.{◌≡◌, ℕ, ◌≤◌, ◌++◌, Bool, true, false, cond, List, [], ◌∷◌, Option, Some, None, refl, ap, ◌∙◌, arith, length, sum}
+use Rattle.std.proofs.Common.{◌≡◌, ℕ, ◌-◌, ◌≤◌, ◌++◌, Bool, true, false, cond, List, [], ◌∷◌, Option, Some, None, refl, ap, ◌∙◌, arith, length, sum}
 use Rattle.std.specs.Prelude.{find, is_some, option_map}
 use Rattle.std.specs.Bool.{then_some}
 use Rattle.std.specs.Option.{option_or}
@@ -59,3 +59,10 @@ greatest_level-le Jr (x ∷ xs) some = omega arith
 greatest_level-le Pjr committee some = omega arith
 greatest_level-le Ejr committee some = omega arith
 greatest_level-le EjrPlus committee some = omega arith
+
+-- a committee has as many members as U
+pub few_enough : (property : Property) (committee : List ℕ) (level : ℕ) → 1 ≤ length committee → level ≤ greatest_level property committee → level - 1 ≤ length committee
+few_enough Jr committee level some most = omega (arith, some, most)
+few_enough Pjr committee level some most = omega (arith, most)
+few_enough Ejr committee level some most = omega (arith, most)
+few_enough EjrPlus committee level some most = omega (arith, most)

@@ -6,7 +6,7 @@ use Rattle.ballot_base.specs.CandSet.{includes}
 use Rattle.group_check.specs.declared.property.Property.TheVariants.{Jr, Pjr, Ejr, EjrPlus}
 use Rattle.group_check.specs.Groups.{IsGroup, member_ballots, common_candidates, represented, is_large_enough, is_outside, is_cohesive, all_below, breaks, Breaks, SomeGroupBreaks, HasProperty}
 use Rattle.group_check.specs.Report.{fits_pair, is_in_group, group_of, pair_group, lists_within, lists_shared, pairs_at, pair_breaks, violation_of, first_violation, IsReport}
-use Rattle.group_check.specs.Steps.Checking.{greatest_level, shared_size, may_share, is_possible, IsChoice, IsFirst, IsSecond, Computes, first_of, first_of_lists, pairs_of, sublists, completions, is_large, is_below, is_around, is_enough_within, voters_below, voters_around, possible_candidates}
+use Rattle.group_check.specs.Steps.Checking.{greatest_level, shared_size, may_share, IsChoice, IsFirst, IsSecond, Computes, first_of, first_of_lists, pairs_of, sublists, completions, is_large, is_below, is_around, is_enough_within, voters_around}
 use Rattle.group_check.proofs.BreakLemmas.{no_group, above_greatest}
 
 -- ---- three voters approve 1 and 2, and one approves 3 and 4; the committee has 3 and 4
@@ -273,14 +273,6 @@ a_member_may_share = refl
 no_member_may_share : may_share EjrPlus (3 ∷ 4 ∷ []) 3 ≡ false
 no_member_may_share = refl
 
-one_can_be_shared : is_possible EjrPlus pair (2 ∷ 3 ∷ []) 2 1 ≡ true
-unfolding pair
-one_can_be_shared = refl
-
-two_cannot : is_possible EjrPlus pair (2 ∷ 3 ∷ []) 2 2 ≡ false
-unfolding pair
-two_cannot = refl
-
 first_of_plus : IsFirst EjrPlus 4 (3 ∷ 4 ∷ []) 2 (1 ∷ [])
 first_of_plus = (((lit≤ tt, lit≤ tt, tt), refl), refl)
 
@@ -320,14 +312,6 @@ one_member_is_below_two = refl
 
 one_member_is_not_below_one : is_below (3 ∷ 4 ∷ []) 1 (1 ∷ []) (1 ∷ 2 ∷ 3 ∷ []) ≡ false
 one_member_is_not_below_one = refl
-
-who_is_below : voters_below split (3 ∷ 4 ∷ []) 2 (1 ∷ 3 ∷ []) ≡ 1 ∷ 0 ∷ []
-unfolding split
-who_is_below = refl
-
-who_can_be_shared : possible_candidates Ejr split (3 ∷ 4 ∷ []) 2 ≡ 1 ∷ 2 ∷ []
-unfolding split
-who_can_be_shared = refl
 
 can_still_be_chosen : is_around (3 ∷ 4 ∷ 5 ∷ []) (1 ∷ []) (3 ∷ []) (5 ∷ []) 1 (1 ∷ 3 ∷ 5 ∷ []) ≡ true
 can_still_be_chosen = refl

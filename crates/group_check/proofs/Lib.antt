@@ -1,4 +1,5 @@
 pub mod BreakLemmas
+pub mod ChargeLemmas
 pub mod CloneLemmas
 pub mod CountedLemmas
 pub mod Examples
@@ -6,6 +7,7 @@ pub mod GroupLemmas
 pub mod LawLemmas
 pub mod PlaceLemmas
 pub mod PropertyLemmas
+pub mod RefutationLemmas
 pub mod ReportLemmas
 pub mod SetLemmas
 pub mod TestLemmas

@@ -1,6 +1,6 @@
 -- Tests of all or some items of a list.
-use Rattle.std.proofs.Common.{◌≡◌, ℕ, ◌&&◌, ◌||◌, Bool, true, false, cond, List, [], ◌∷◌, Some, refl, sym, ap, ◌∙◌, map, filter, take, zero, suc}
-use Rattle.std.specs.Prelude.{find, flat_map, is_some, Contains}
+use Rattle.std.proofs.Common.{◌≡◌, ℕ, ◌&&◌, ◌||◌, Bool, true, false, cond, List, [], ◌∷◌, Some, refl, sym, ap, ◌∙◌, map, filter, take, zero, suc, Option, None, not}
+use Rattle.std.specs.Prelude.{find, flat_map, is_some, Contains, IsTrue}
 use Rattle.std.specs.List.{list_all, list_any}
 use Rattle.std.proofs.lemmas.Bool.{and_from, and_parts}
 use Rattle.std.proofs.lemmas.List.Folds.{list_any_at, list_any-append}
@@ -85,3 +85,9 @@ module _ {X Y : Type 0} where
   list_all-swap r xs (y ∷ ys) h = and_from (list_all (λ x. r x y) xs) (list_all (λ z. list_all (λ x. r x z) xs) ys)
       (list_all-weaker (λ x. list_all (r x) (y ∷ ys)) (λ x. r x y) (λ x all. (and_parts (r x y) (list_all (r x) ys) all).0) xs h)
       (list_all-swap r xs ys (list_all-weaker (λ x. list_all (r x) (y ∷ ys)) (λ x. list_all (r x) ys) (λ x all. (and_parts (r x y) (list_all (r x) ys) all).1) xs h))
+
+-- where nothing is there, nothing was found
+pub nothing_there : {X : Type 0} (found : Option X) (none : Bool) → is_some found ≡ not none → IsTrue none → found ≡ None
+nothing_there None none e h = refl
+nothing_there (Some x) true e h = cc
+nothing_there (Some x) false e h = cc

@@ -24,12 +24,16 @@ sum-group_of test [] = refl
 sum-group_of test (row ∷ rows) =
     omega (arith, sum_by-cons (λ (x : ℕ). x) (votes_passing test row) (group_of test rows), sum_by-cons (votes_passing test) row rows, sum-group_of test rows)
 
-pub votes-more : (test : List ℕ → Bool) (rows : List Row) (i : ℕ) (row : Row) → slice_get rows i ≡ Some row
-    → sum_by (votes_passing test) (take (i + 1) rows) ≡ sum_by (votes_passing test) (take i rows) + votes_passing test row
-votes-more test rows i row found =
+-- a sum over one row more
+pub sum-more : (f : Row → ℕ) (rows : List Row) (i : ℕ) (row : Row) → slice_get rows i ≡ Some row → sum_by f (take (i + 1) rows) ≡ sum_by f (take i rows) + f row
+sum-more f rows i row found =
     let here : get_or rows i row ≡ row = get_or_from_slice_get rows i row row found in
     let within : i < length rows = slice_get_within rows i row found in
-    rw here at (sum_by_more (votes_passing test) rows i row within)
+    rw here at (sum_by_more f rows i row within)
+
+pub votes-more : (test : List ℕ → Bool) (rows : List Row) (i : ℕ) (row : Row) → slice_get rows i ≡ Some row
+    → sum_by (votes_passing test) (take (i + 1) rows) ≡ sum_by (votes_passing test) (take i rows) + votes_passing test row
+votes-more test rows i row found = sum-more (votes_passing test) rows i row found
 
 pub votes-bound : (test : List ℕ → Bool) (e : Election) (i : ℕ) (row : Row) → IsElection e → slice_get e.rows i ≡ Some row
     → sum_by (votes_passing test) (take i e.rows) + votes_passing test row ≤ 2 ^ 32
@@ -46,3 +50,7 @@ votes-yes test row e = ap (λ b. cond b row.1 0) e
 
 pub votes-none : (test : List ℕ → Bool) (row : Row) → test row.0 ≡ false → votes_passing test row ≡ 0
 votes-none test row e = ap (λ b. cond b row.1 0) e
+
+-- no more than all
+pub at-most-all : (b : Bool) (n : ℕ) → cond b n 0 ≤ n
+at-most-all b n = at_most b n

@@ -8,7 +8,7 @@ use Rattle.ballot_base.specs.Lists.{IsIncreasing}
 use Rattle.ballot_base.specs.CandSet.{has_member, with_member}
 use Rattle.ballot_base.proofs.Increasing.{IsIncreasing-lower, with_member-gt}
 use Rattle.ballot_base.proofs.ListLemmas.{AllByRecursion-append, AllByRecursion-weaker}
-use Rattle.group_check.specs.Steps.Checking.{sublists, completions}
+use Rattle.group_check.specs.Steps.Checking.{IsTail, sublists, completions}
 use Rattle.group_check.proofs.SetLemmas.{or_mono}
 
 -- ---- a beginning and what comes after it
@@ -55,12 +55,6 @@ IsIncreasing-with first last front x rest i =
     rw (with_member-end first last front x rest i, append_assoc front (x ∷ []) rest) i
 
 -- ---- the lists of a pool
-
--- a list of `size` of the items of a pool
-pub record IsTail (first last : ℕ) (pool : List ℕ) (size : ℕ) (tail : List ℕ) : Type 0 where
-  pub increasing : IsIncreasing first last tail
-  pub count : length tail ≡ size
-  pub inside : (n : ℕ) → has_member tail n ≡ true → has_member pool n ≡ true
 
 module _ {X : Type 0} where
   pub none_passes : (p : X → Bool) (xs : List X) → AllByRecursion (λ x. p x ≡ false) xs → find p xs ≡ None

@@ -1,22 +1,22 @@
 //! The search for a violation.
-ghost use Rattle.std.specs.Prelude.{◌≡◌, ◌≢◌, ℕ, ◌+◌, ◌-◌, ◌<◌, ◌≤◌, ◌↔◌, ◌++◌, Bool, List, [], ◌∷◌, None, IfSome, IsTrue, length, sum, find};
-ghost use Rattle.std.specs.List.{list_all};
-ghost use Rattle.ballot_base.specs.Limits.{most_candidates, most_members, most_voters};
+ghost use Rattle.std.specs.Prelude.{◌≡◌, ◌≢◌, ℕ, ◌+◌, ◌-◌, ◌<◌, ◌≤◌, ◌↔◌, ◌++◌, Bool, List, [], ◌∷◌, None, IfSome, IsTrue, filter, length, sum, find, nat_le};
+ghost use Rattle.std.specs.List.{list_all, range_with_len};
+ghost use Rattle.ballot_base.specs.Limits.{most_members, most_voters};
 ghost use Rattle.ballot_base.specs.Lists.{IsIncreasing};
 ghost use Rattle.ballot_base.specs.Ballots.{IsElection};
 ghost use Rattle.ballot_base.specs.Clones.{AreClones};
 ghost use Rattle.ballot_base.specs.CandSet.{includes};
 ghost use Rattle.ballot_base.specs.Steps.Lists.{IsIncreasing-prop};
+ghost use Rattle.group_check.specs.declared.property.Property.TheVariants.{Pjr};
 ghost use Rattle.group_check.specs.Groups.{HasProperty};
 ghost use Rattle.group_check.specs.Report.{IsReport, first_violation, lists_within, is_in_group, group_of};
-ghost use Rattle.group_check.specs.Steps.Checking.{greatest_level, shared_size, may_share, IsFirst, IsSecond, Computes, pairs_of, first_of, first_of_lists, completions, is_possible, possible_candidates, voters_below, voters_around, is_enough_within, is_large};
+ghost use Rattle.group_check.specs.Steps.Checking.{greatest_level, shared_size, may_share, IsFirst, IsSecond, Computes, pairs_of, first_of, first_of_lists, completions, voters_around, is_enough_within, is_large};
+ghost use Rattle.group_check.specs.Steps.Refuting.{choices_of, choices_beside};
 
 use crate::property::{Property, Violation};
+use crate::refutation::Choices;
 use ballot_base::{CandSet, Clones, Profile};
 use std::alloc::Allocator;
-
-/// Lists U are tried on their own, before any candidates, only if there are at most this many.
-const FEW_LISTS: u64 = 1 << 20;
 
 /// Returns a group that shows that the committee lacks the property, or `None` if the committee has it. The group
 /// breaks the property at the lowest level at which any group does. It is the whole group of the first candidates that
@@ -61,12 +61,13 @@ fn greatest_level(property: Property, committee: CandSet) -> u8
 
 /// The search for the first violation at one level.
 #[derive(Drop)]
-struct Search<'a, A: Allocator + Copy> {
-    profile: &'a Profile<A>,
-    clones: &'a Clones,
-    committee: CandSet,
-    property: Property,
-    level: u8,
+pub struct Search<'a, A: Allocator + Copy> {
+    pub profile: &'a Profile<A>,
+    pub clones: &'a Clones,
+    pub committee: CandSet,
+    pub property: Property,
+    pub level: u8,
+    ghost some: { 1 ≤ length committee },
     ghost classes: { AreClones profile.now.m profile.now.rows clones.now },
     ghost candidates: { IsIncreasing 1 profile.now.m committee } by { IsIncreasing-prop 1 profile.now.m committee },
     ghost least: { 1 ≤ level },
@@ -77,12 +78,27 @@ impl<A: Allocator + Copy> Search<'_, A> {
     fn first(&self) -> Option<Violation>
         ensures { result ≡ first_violation self.now.property self.now.profile.now self.now.committee self.now.level }
     {
-        let pool = self.possible_candidates();
+        let nobody = CandSet::empty();
+        let pool = self.shareable();
         let size = self.shared_size();
-        if pool.len() < size || self.is_refuted() {
+        if self.is_refuted(self.choices(nobody, pool, size)) {
             return None;
         }
-        self.first_beyond(CandSet::empty(), pool, size)
+        self.first_beyond(nobody, pool, size)
+    }
+
+    /// The choices of T of these candidates and `left` candidates of the pool, and of any U.
+    fn choices(&self, shared: CandSet, pool: CandSet, left: u8) -> Choices
+        ensures { result ≡ choices_of self.now.committee self.now.level shared pool left }
+    {
+        Choices {
+            shared,
+            pool,
+            left,
+            within: CandSet::empty(),
+            members: self.committee,
+            room: self.level - 1,
+        }
     }
 
     fn shared_size(&self) -> u8
@@ -94,47 +110,17 @@ impl<A: Allocator + Copy> Search<'_, A> {
         }
     }
 
-    /// Whether a group may share this candidate. EJR+ excludes members of the committee.
-    fn may_share(&self, candidate: u8) -> bool
-        ensures { result ≡ may_share self.now.property self.now.committee candidate }
-    {
-        self.property != Property::EjrPlus || !self.committee.has(candidate)
-    }
-
-    /// Which candidates a group can share if it breaks the property.
-    fn possible_candidates(&self) -> CandSet
+    /// The candidates that a group may share. EJR+ excludes members of the committee.
+    fn shareable(&self) -> CandSet
         ensures candidates { result
-            ≡ possible_candidates self.now.property self.now.profile.now self.now.committee self.now.level }
+            ≡ filter (may_share self.now.property self.now.committee) (range_with_len 1 self.now.profile.now.m) }
         ensures valid { IsElection self.now.profile.now }
     {
-        let mut pool = CandSet::empty();
-        for candidate in 1..=self.profile.m() {
-            if self.is_possible(candidate) {
-                pool = pool.with(candidate);
-            }
+        let candidates = CandSet::all(self.profile.m());
+        match self.property {
+            Property::Jr | Property::Pjr | Property::Ejr => candidates,
+            Property::EjrPlus => candidates.minus(self.committee),
         }
-        pool
-    }
-
-    /// Whether a group can share this candidate if it breaks the property. The property has to allow it, and enough of
-    /// the candidate's voters have to approve fewer members than the level.
-    fn is_possible(&self, candidate: u8) -> bool
-        ensures { result
-            ≡ is_possible self.now.property self.now.profile.now self.now.committee self.now.level candidate }
-    {
-        self.may_share(candidate) && self.is_enough(self.voters_below(CandSet::empty(), candidate))
-    }
-
-    /// Whether the property is PJR and no list U has enough voters, whichever candidates they share. If there are many
-    /// lists U, none is tried and the result is `false`.
-    fn is_refuted(&self) -> bool
-        ensures { IsTrue result
-            → first_violation self.now.property self.now.profile.now self.now.committee self.now.level ≡ None }
-    {
-        let nobody = CandSet::empty();
-        self.property == Property::Pjr
-            && has_few_lists(self.committee.len(), self.level - 1)
-            && self.first_within(nobody, nobody, self.committee).is_none()
     }
 
     /// The first violation that shares these candidates and `left` candidates of the pool, all of which come after
@@ -153,9 +139,9 @@ impl<A: Allocator + Copy> Search<'_, A> {
             return None;
         }
         let (candidate, rest) = pool.split_first()?;
-        // A list that begins with `shared` and the candidate has at most this many voters.
-        if self.is_enough(self.voters_below(shared, candidate)) {
-            let found = self.first_beyond(shared.with(candidate), rest, left - 1);
+        let more = shared.with(candidate);
+        if !self.is_refuted(self.choices(more, rest, left - 1)) {
+            let found = self.first_beyond(more, rest, left - 1);
             if found.is_some() {
                 return found;
             }
@@ -183,6 +169,7 @@ impl<A: Allocator + Copy> Search<'_, A> {
     /// The first list U of these members and of members of the pool that has enough voters who approve all of `shared`.
     /// All members of the pool come after these members.
     fn first_within(&self, shared: CandSet, within: CandSet, pool: CandSet) -> Option<CandSet>
+        requires property { self.now.property ≡ Pjr }
         requires members { IsTrue (includes self.now.committee pool) }
         requires order { IsIncreasing 1 self.now.profile.now.m (within ++ pool) }
         requires size { length within < self.now.level }
@@ -201,9 +188,12 @@ impl<A: Allocator + Copy> Search<'_, A> {
             return Some(within);
         }
         let (member, rest) = pool.split_first()?;
-        let found = self.first_within(shared, within.with(member), rest);
-        if found.is_some() {
-            return found;
+        let more = within.with(member);
+        if !self.is_refuted(beside(shared, more, rest, left - 1)) {
+            let found = self.first_within(shared, more, rest);
+            if found.is_some() {
+                return found;
+            }
         }
         // A voter who approves the member approves its clones too, and so fits no list that has a clone without it.
         let others = rest.minus(self.clones.class(member));
@@ -229,28 +219,20 @@ impl<A: Allocator + Copy> Search<'_, A> {
         self.is_enough(violation.voters).then_some(violation)
     }
 
-    /// Whether a group of this many voters is large enough for the level l. If the committee has k members, the group
-    /// has to make up at least l/k of all voters.
+    /// Whether a group of this many voters is large enough for the level.
     fn is_enough(&self, voters: u64) -> bool
-        requires { voters ≤ most_voters }
         ensures { result ≡ is_large self.now.profile.now self.now.committee self.now.level voters }
     {
-        let due = u64::from(self.level) * self.profile.voters();
-        voters * u64::from(self.committee.len()) >= due
+        voters >= self.needed()
     }
 
-    /// The number of voters who approve this candidate, all of `shared`, and fewer members than the level.
-    fn voters_below(&self, shared: CandSet, candidate: u8) -> u64
-        ensures group { result
-            ≡ sum (voters_below self.now.profile.now self.now.committee self.now.level (candidate ∷ shared)) }
-        ensures most { result ≤ most_voters }
-        ensures valid { IsElection self.now.profile.now }
+    /// How many voters a group has to have for the level l: l/k of all voters if the committee has k members.
+    pub fn needed(&self) -> u64
+        ensures { (voters : ℕ) → nat_le result voters
+            ≡ is_large self.now.profile.now self.now.committee self.now.level voters }
     {
-        voters_with(self.profile, |ballot| {
-            ballot.has(candidate)
-                && ballot.includes(shared)
-                && ballot.common(self.committee).len() < self.level
-        })
+        let due = u64::from(self.level) * self.profile.voters();
+        due.div_ceil(u64::from(self.committee.len()))
     }
 
     /// The number of voters who approve all of `shared`, and only members that a list U which begins with `within` can
@@ -272,20 +254,18 @@ impl<A: Allocator + Copy> Search<'_, A> {
     }
 }
 
-/// Whether there are at most `FEW_LISTS` lists of `size` members of a committee of size k. Either result would be
-/// correct: it only decides whether one more test is worth its time.
-fn has_few_lists(k: u8, size: u8) -> bool
-    requires most { k ≤ most_candidates }
-    requires fits { size ≤ k }
+/// The choices of T of exactly these candidates, and of U of these members and `room` of the other `members`.
+fn beside(shared: CandSet, within: CandSet, members: CandSet, room: u8) -> Choices
+    ensures { result ≡ choices_beside shared within members room }
 {
-    let mut lists = 1;
-    for taken in 0..size.min(k - size) {
-        if lists > FEW_LISTS {
-            return false;
-        }
-        lists = lists * u64::from(k - taken) / (u64::from(taken) + 1);
+    Choices {
+        shared,
+        pool: CandSet::empty(),
+        left: 0,
+        within,
+        members,
+        room,
     }
-    lists <= FEW_LISTS
 }
 
 fn supporting_voters<A: Allocator + Copy>(profile: &Profile<A>, violation: &Violation) -> u64
@@ -296,7 +276,7 @@ fn supporting_voters<A: Allocator + Copy>(profile: &Profile<A>, violation: &Viol
 }
 
 /// The number of voters whose ballots pass the test.
-fn voters_with<A: Allocator + Copy, F: Fn(CandSet) -> bool>(profile: &Profile<A>, passes: F) -> u64
+pub fn voters_with<A: Allocator + Copy, F: Fn(CandSet) -> bool>(profile: &Profile<A>, passes: F) -> u64
     requires { F.IsAlwaysCallable passes }
     ensures group { (test : List ℕ → Bool) → Computes (F.post passes) test
         → result ≡ sum (group_of test profile.now.rows) }

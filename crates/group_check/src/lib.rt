@@ -4,6 +4,7 @@
 mod checking;
 pub mod laws;
 pub mod property;
+mod refutation;
 
 pub use checking::find_violation;
 pub use property::{Property, Violation};

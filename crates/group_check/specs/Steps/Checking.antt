@@ -2,7 +2,7 @@
 use Rattle.std.specs.Prelude.{◌≡◌, ℕ, zero, suc, ◌+◌, ◌-◌, ◌*◌, ◌&&◌, ◌++◌, Bool, true, List, [], ◌∷◌, ⊤, IsTrue, length, map, filter, flat_map, find, sum, nat_le, nat_lt, Option, option_map, min}
 use Rattle.std.specs.List.{list_all, range_with_len}
 use Rattle.ballot_base.specs.Lists.{IsIncreasing}
-use Rattle.ballot_base.specs.CandSet.{common_members, includes}
+use Rattle.ballot_base.specs.CandSet.{has_member, common_members, includes}
 use Rattle.ballot_base.specs.Ballots.{Election, voter_count}
 use Rattle.group_check.specs.declared.property.Property.{Property}
 use Rattle.group_check.specs.declared.property.Property.TheVariants.{Jr, Pjr, Ejr, EjrPlus}
@@ -69,6 +69,12 @@ sublists (x ∷ xs) zero = [] ∷ []
 sublists [] (suc size) = []
 sublists (x ∷ xs) (suc size) = map (λ rest. x ∷ rest) (sublists xs size) ++ sublists xs (suc size)
 
+-- a list of `size` of the items of a pool
+pub record IsTail (first last : ℕ) (pool : List ℕ) (size : ℕ) (tail : List ℕ) : Type 0 where
+  pub increasing : IsIncreasing first last tail
+  pub count : length tail ≡ size
+  pub inside : (n : ℕ) → has_member tail n ≡ true → has_member pool n ≡ true
+
 -- the lists of these candidates and `left` of the pool
 abbrev pub completions : List ℕ → List ℕ → ℕ → List (List ℕ)
 completions front pool left = map (λ rest. front ++ rest) (sublists pool left)
@@ -81,20 +87,6 @@ is_large e committee level voters = nat_le (level * voter_count e.rows) (voters 
 abbrev pub is_below : List ℕ → ℕ → List ℕ → List ℕ → Bool
 is_below committee level shared ballot =
     includes ballot shared && nat_lt (length (common_members ballot committee)) level
-
--- the group of all voters who approve all of T, and fewer members than the level
-abbrev pub voters_below : Election → List ℕ → ℕ → List ℕ → List ℕ
-voters_below e committee level shared = group_of (is_below committee level shared) e.rows
-
--- whether a candidate can be in T: it may be shared, and enough of the voters who approve it are below the level
-abbrev pub is_possible : Property → Election → List ℕ → ℕ → ℕ → Bool
-is_possible property e committee level c =
-    may_share property committee c && is_large e committee level (sum (voters_below e committee level (c ∷ [])))
-
--- the candidates who can be in T
-abbrev pub possible_candidates : Property → Election → List ℕ → ℕ → List ℕ
-possible_candidates property e committee level =
-    filter (is_possible property e committee level) (range_with_len 1 e.m)
 
 -- whether a ballot approves all of T, and no members except those within and at most `left` of the pool
 abbrev pub is_around : List ℕ → List ℕ → List ℕ → List ℕ → ℕ → List ℕ → Bool

@@ -4,11 +4,12 @@ use Rattle.std.proofs.lemmas.List.{append_assoc, length-append}
 use Rattle.ballot_base.specs.CandSet.{has_member, with_member}
 use Rattle.group_check.specs.Steps.Checking.{may_share, first_of_lists, completions}
 use Rattle.group_check.proofs.CloneLemmas.{clones_out, length-kept, order-kept, share-kept}
-use Rattle.group_check.proofs.CountedLemmas.{found_first, none_found-is}
-use Rattle.group_check.proofs.WalkLemmas.{IsIncreasing-front, IsIncreasing-with, IsIncreasing-without, at_least_one, at_most_last, with_member-end}
-use Rattle.group_check.proofs.BeginningLemmas.{none_below, none_from_few, first_whole, first_split, share_without, share_front}
+use Rattle.group_check.proofs.CountedLemmas.{few_enough, found_first, none_found-is}
+use Rattle.group_check.proofs.WalkLemmas.{IsIncreasing-front, IsIncreasing-rest, IsIncreasing-with, IsIncreasing-without, at_least_one, at_most_last, with_member-end}
+use Rattle.group_check.proofs.RefutationLemmas.{none_shared, open-start}
+use Rattle.group_check.proofs.BeginningLemmas.{none_from_few, first_whole, first_split, share_without, share_front}
 use Rattle.group_check.proofs.checking.Search.+first_beyond.Goals as goal
-use Rattle.group_check.proofs.checking.Search.+first_beyond.Goals.{then-is_enough+else-is_some, else-is_enough}
+use Rattle.group_check.proofs.checking.Search.+first_beyond.Goals.{then-not-is_refuted+else-is_some, else-not-is_refuted}
 
 pub first_sharing-requires : goal.first_sharing-requires
 first_sharing-requires g t c =
@@ -27,14 +28,24 @@ returns-then-len-left g t c =
     let s = c.args.self.now in
     none_from_few s.property s.profile.now s.committee s.level c.args.shared c.args.pool c.args.left (omega (arith, c.if-len-left.true, c.len.ensures.count))
 
-pub with-requires-clause-low : goal.with-requires-clause-low
-with-requires-clause-low g t c =
+pub with-more-requires-clause-low : goal.with-more-requires-clause-low
+with-more-requires-clause-low g t c =
     at_least_one c.args.self.now.profile.now.m c.args.shared c.in_ok-candidate.candidate c.in_ok-candidate.rest (rw c.in_ok-candidate.ensures at c.requires.order)
 
-pub with-requires-clause-high : goal.with-requires-clause-high
-with-requires-clause-high g t c =
-    let last = at_most_last 1 c.args.self.now.profile.now.m c.args.shared c.in_ok-candidate.candidate c.in_ok-candidate.rest (rw c.in_ok-candidate.ensures at c.requires.order) in
-    omega (arith, last, c.voters_below.ensures.valid.most)
+pub with-more-requires-clause-high : goal.with-more-requires-clause-high
+with-more-requires-clause-high g t c =
+    (rw c.in_ok-candidate.ensures at c.len.ensures.valid).1
+
+pub is_refuted-requires : goal.is_refuted-requires
+is_refuted-requires g t c =
+    let s = c.args.self.now in
+    let m = s.profile.now.m in
+    let x = c.in_ok-candidate.candidate in
+    let rest = c.in_ok-candidate.rest in
+    let more = with_member c.args.shared x in
+    rw (c.choices.ensures, c.with-more.ensures)
+        (open-start m s.level s.committee more rest (c.args.left - 1)
+        (IsIncreasing-rest 1 m more rest (IsIncreasing-with 1 m c.args.shared x rest (rw c.in_ok-candidate.ensures at c.requires.order))))
 
 pub first_beyond-found-requires : goal.first_beyond-found-requires
 first_beyond-found-requires g t c κs within =
@@ -42,12 +53,12 @@ first_beyond-found-requires g t c κs within =
     let x = c.in_ok-candidate.candidate in
     let rest = c.in_ok-candidate.rest in
     let order = rw c.in_ok-candidate.ensures at c.requires.order in
-    let more = c.with.ensures ∙ with_member-end 1 m c.args.shared x rest order in (
+    let more = c.with-more.ensures ∙ with_member-end 1 m c.args.shared x rest order in (
       omega (arith, ap length c.in_ok-candidate.ensures, c.decreases),
       (
         within,
         (
-          rw c.with.ensures (IsIncreasing-with 1 m c.args.shared x rest order),
+          rw c.with-more.ensures (IsIncreasing-with 1 m c.args.shared x rest order),
           (
             omega (arith, ap length more, length-append c.args.shared (x ∷ []), c.requires.size, c.if-left-eq0.false),
             rw (more, append_assoc c.args.shared (x ∷ []) rest) (rw c.in_ok-candidate.ensures at c.requires.shared),
@@ -62,14 +73,13 @@ returns-then-is_some g t c =
     let rest = c.in_ok-candidate.rest in
     rw c.in_ok-candidate.ensures
     (found_first c.first_beyond-found.result _ (first_of_lists s.property s.profile.now s.committee s.level (completions c.args.shared rest c.args.left))
-    (rw c.with.ensures at c.first_beyond-found.ensures) (sym c.is_some.ensures ∙ c.if-is_some.true)
+    (rw c.with-more.ensures at c.first_beyond-found.ensures) (sym c.is_some.ensures ∙ c.if-is_some.true)
     ∙ first_split s.property s.profile.now s.committee s.level c.args.shared c.in_ok-candidate.candidate rest c.args.left
     (rw c.in_ok-candidate.ensures at c.requires.order) c.if-left-eq0.false)
 
 pub class-requires : goal.class-requires
 class-requires g t c =
-    let last = at_most_last 1 c.args.self.now.profile.now.m c.args.shared c.in_ok-candidate.candidate c.in_ok-candidate.rest (rw c.in_ok-candidate.ensures at c.requires.order) in
-    omega (arith, last, c.voters_below.ensures.valid.most)
+    (rw c.in_ok-candidate.ensures at c.len.ensures.valid).1
 
 pub first_beyond-requires : goal.first_beyond-requires
 first_beyond-requires g t c κs within =
@@ -101,12 +111,13 @@ returns g t c =
     let pool = c.in_ok-candidate.rest in
     let order = rw c.in_ok-candidate.ensures at c.requires.order in
     let more = with_member c.args.shared x in
-    let none : None ≡ first more pool (c.args.left - 1) = elim c.if-is_enough.branch [
-      | then-is_enough+else-is_some w ↦
-          none_found-is w.first_beyond-found.result _ (rw w.with.ensures at w.first_beyond-found.ensures) (sym w.is_some.ensures ∙ w.if-is_some.false)
-      | else-is_enough w ↦
-          none_below s.property e s.committee s.level c.args.shared x pool (c.args.left - 1) c.voters_below.ensures.valid s.least order
-          (sym (rw c.voters_below.ensures.group at c.is_enough.ensures) ∙ w.if-is_enough.false)
+    let none : None ≡ first more pool (c.args.left - 1) = elim c.if-not-is_refuted.branch [
+      | then-not-is_refuted+else-is_some w ↦
+          none_found-is w.first_beyond-found.result _ (rw c.with-more.ensures at w.first_beyond-found.ensures) (sym w.is_some.ensures ∙ w.if-is_some.false)
+      | else-not-is_refuted w ↦
+          none_shared s.property e s.committee s.level more pool (c.args.left - 1) s.candidates (few_enough s.property s.committee s.level s.some s.most)
+          (IsIncreasing-rest 1 e.m more pool (IsIncreasing-with 1 e.m c.args.shared x pool order))
+          (rw (c.choices.ensures, c.with-more.ensures) at (c.is_refuted.ensures w.if-not-is_refuted.false))
     ] in
     let class = c.class.ensures ∙ s.classes x (at_least_one e.m c.args.shared x pool order) (at_most_last 1 e.m c.args.shared x pool order) in
     rw c.in_ok-candidate.ensures
