@@ -1,36 +1,31 @@
 -- Beginnings of T and of U with too few voters: no list below them has enough of them.
 use Rattle.std.proofs.Common.{◌≡◌, ℕ, ◌+◌, ◌-◌, ◌<◌, ◌≤◌, ◌==◌, ◌&&◌, ◌||◌, ◌⊎◌, ◌++◌, Bool, true, false, cond, List, [], ◌∷◌, Option, Some, None, refl, sym, ap, subst, ◌∙◌, arith, inl, inr, length, map, filter, sum, not}
-use Rattle.std.specs.Prelude.{IsTrue, find, flat_map, is_some, min, nat_le, nat_lt, option_map}
+use Rattle.std.specs.Prelude.{find, flat_map, min, nat_le, option_map}
 use Rattle.std.specs.List.{AllByRecursion, list_all, range_with_len}
 use Rattle.std.specs.Option.{option_or}
-use Rattle.std.proofs.lemmas.Bool.{and_from, and_parts, le-leb, lt-leb, lt-ltb, eq-eqb, ne_eqb, cases_lt, or_right}
+use Rattle.std.proofs.lemmas.Bool.{and_from, and_parts, le-leb, lt-leb, eq-eqb, ne_eqb, cases_lt, or_right}
 use Rattle.std.proofs.lemmas.Grind.{flat_map-append}
-use Rattle.std.proofs.lemmas.List.{append_assoc, append-nil, map-id}
-use Rattle.std.proofs.lemmas.List.Elements.{filter-append}
-use Rattle.std.proofs.lemmas.List.FromFn.{map-range_with_len_more}
 use Rattle.std.proofs.lemmas.List.Filters.{length-filter_both}
 use Rattle.std.proofs.lemmas.List.Folds.{find-append, list_all-append, list_any-append}
 use Rattle.std.proofs.lemmas.List.Sums.{length-filter, count_by-le-length, sum_by-cons}
 use Rattle.ballot_base.specs.Lists.{IsIncreasing, increasing_lists}
 use Rattle.ballot_base.specs.CandSet.{has_member, with_member, common_members, includes}
-use Rattle.ballot_base.specs.Ballots.{Row, Election, IsElection, hits}
-use Rattle.ballot_base.proofs.Committees.{increasing_lists-chosen, IsIncreasing-range}
-use Rattle.ballot_base.proofs.Increasing.{IsIncreasing-filter, has_member-filter, has_member_head, with_member-above}
+use Rattle.ballot_base.specs.Ballots.{Row, Election, IsElection}
+use Rattle.ballot_base.proofs.Committees.{increasing_lists-chosen}
+use Rattle.ballot_base.proofs.Increasing.{IsIncreasing-filter, has_member-filter, has_member_head}
 use Rattle.group_check.specs.declared.property.Property.{Property}
 use Rattle.group_check.specs.declared.property.Property.TheVariants.{Jr, Pjr, Ejr, EjrPlus}
 use Rattle.group_check.specs.declared.property.Violation.{Violation}
-use Rattle.group_check.specs.Groups.{member_ballots}
 use Rattle.group_check.specs.Report.{violation_of, fits_pair, group_of, pair_group, lists_within, lists_shared, pair_breaks, first_violation}
-use Rattle.group_check.specs.Steps.Checking.{IsTail, IsChoice, IsFirst, IsSecond, shared_size, may_share, first_of, first_of_lists, pairs_of, sublists, completions, is_large, is_below, is_around, is_enough_within, voters_around}
+use Rattle.group_check.specs.Steps.Checking.{IsTail, IsChoice, IsFirst, IsSecond, shared_size, may_share, first_of, first_of_lists, pairs_of, sublists, completions, is_large, is_around, is_enough_within, voters_around}
 use Rattle.ballot_base.proofs.Included.{kept_all}
 use Rattle.ballot_base.proofs.ListLemmas.{AllByRecursion-weaker}
-use Rattle.group_check.proofs.SetLemmas.{passes_at, length-within, length-common_members}
-use Rattle.group_check.proofs.TestLemmas.{list_all-weaker, list_all-filter, found_passes}
-use Rattle.group_check.proofs.GroupLemmas.{group_of-group, group_of-pass, group-le}
+use Rattle.group_check.proofs.SetLemmas.{passes_at, length-within}
+use Rattle.group_check.proofs.TestLemmas.{found_passes}
 use Rattle.group_check.proofs.BreakLemmas.{any_may, large_more, pair_breaks-is}
 use Rattle.group_check.proofs.CountedLemmas.{first_of-append}
 use Rattle.group_check.proofs.PlaceLemmas.{kept_lists, lists_of_members, AllByRecursion-filter}
-use Rattle.group_check.proofs.WalkLemmas.{with_member-end, IsIncreasing-rest, AllByRecursion-map, none_passes, tails, whole, split_lists, too_few_below}
+use Rattle.group_check.proofs.WalkLemmas.{IsIncreasing-rest, AllByRecursion-map, none_passes, tails, whole, split_lists, too_few_below}
 
 -- ---- groups of which each voter of one belongs to the other
 

@@ -1,5 +1,5 @@
 -- Charges: what a group lacks at least, by the votes that are charged to its obstacles.
-use Rattle.std.proofs.Common.{◌≡◌, ℕ, ◌+◌, ◌-◌, ◌*◌, ◌/◌, ◌^◌, ◌<◌, ◌≤◌, ◌&&◌, ◌++◌, Bool, true, false, cond, List, [], ◌∷◌, refl, sym, ap, subst, ◌∙◌, arith, length, filter, sum, sum_by, not}
+use Rattle.std.proofs.Common.{◌≡◌, ℕ, ◌+◌, ◌-◌, ◌*◌, ◌/◌, ◌^◌, ◌≤◌, ◌&&◌, ◌++◌, Bool, true, false, cond, List, [], ◌∷◌, refl, sym, ap, subst, ◌∙◌, arith, length, filter, sum, sum_by, not}
 use Rattle.std.specs.Prelude.{nat_le, slice_index}
 use Rattle.std.proofs.lemmas.Bool.{and_from, and_parts, eqb-true, lt-leb}
 use Rattle.std.proofs.lemmas.Nat.{mul-le}
@@ -18,7 +18,7 @@ use Rattle.group_check.specs.declared.property.Property.TheVariants.{Pjr}
 use Rattle.group_check.specs.declared.refutation.Choices.{Choices}
 use Rattle.group_check.specs.declared.refutation.Agreement.{Agreement}
 use Rattle.group_check.specs.Report.{fits_pair, group_of}
-use Rattle.group_check.specs.Steps.Checking.{IsTail, is_large}
+use Rattle.group_check.specs.Steps.Checking.{is_large}
 use Rattle.group_check.specs.Steps.Refuting.{AreOpen, IsRefuted, CannotAgree, may_belong, possible_voters, obstacles, charge}
 use Rattle.group_check.proofs.SetLemmas.{passes_at, all_pass, length-within, length-common}
 use Rattle.group_check.proofs.BeginningLemmas.{small_ballots}

@@ -6,8 +6,12 @@ use Rattle.ballot_base.specs.CandSet.{includes}
 use Rattle.group_check.specs.declared.property.Property.TheVariants.{Jr, Pjr, Ejr, EjrPlus}
 use Rattle.group_check.specs.Groups.{IsGroup, member_ballots, common_candidates, represented, is_large_enough, is_outside, is_cohesive, all_below, breaks, Breaks, SomeGroupBreaks, HasProperty}
 use Rattle.group_check.specs.Report.{fits_pair, is_in_group, group_of, pair_group, lists_within, lists_shared, pairs_at, pair_breaks, violation_of, first_violation, IsReport}
-use Rattle.group_check.specs.Steps.Checking.{greatest_level, shared_size, may_share, IsChoice, IsFirst, IsSecond, Computes, first_of, first_of_lists, pairs_of, sublists, completions, is_large, is_below, is_around, is_enough_within, voters_around}
+use Rattle.group_check.specs.declared.refutation.Choices.{Choices}
+use Rattle.group_check.specs.declared.refutation.Finding.TheVariants.{Member}
+use Rattle.group_check.specs.Steps.Refuting.{AreOpen, IsRefuted, CannotAgree, IsFinding, choices_of, choices_beside, with_candidate, with_committee_member, is_eligible, may_belong, possible_voters, supporters, obstacles, charge}
+use Rattle.group_check.specs.Steps.Checking.{IsTail, greatest_level, shared_size, may_share, IsChoice, IsFirst, IsSecond, Computes, first_of, first_of_lists, pairs_of, sublists, completions, is_large, is_below, is_around, is_enough_within, voters_around}
 use Rattle.group_check.proofs.BreakLemmas.{no_group, above_greatest}
+use Rattle.group_check.proofs.RefutationLemmas.{open-start, refuted_by_pool}
 
 -- ---- three voters approve 1 and 2, and one approves 3 and 4; the committee has 3 and 4
 divided : Election
@@ -329,3 +333,71 @@ one_of_two_is_too_few = refl
 
 by_the_members : Computes (λ ballot answer. answer ≡ includes ballot (1 ∷ [])) (λ ballot. includes ballot (1 ∷ []))
 by_the_members = λ ballot answer same. same
+
+-- ---- lists T and U at level 2, as far as they are chosen, beside the committee of 3 and 4
+chosen_none : Choices
+chosen_none = choices_of (3 ∷ 4 ∷ []) 2 [] (1 ∷ 2 ∷ 3 ∷ 4 ∷ []) 2
+
+room_for_one : chosen_none.room ≡ 1
+unfolding chosen_none
+room_for_one = refl
+
+no_candidate_is_left : (choices_beside (1 ∷ 2 ∷ []) [] (3 ∷ 4 ∷ []) 1).left ≡ 0
+no_candidate_is_left = refl
+
+one_joins : (with_candidate chosen_none 2).pool ≡ 1 ∷ 3 ∷ 4 ∷ []
+unfolding chosen_none
+one_joins = refl
+
+a_member_joins : (with_committee_member chosen_none 3).within ≡ 3 ∷ []
+unfolding chosen_none
+a_member_joins = refl
+
+of_the_pool : IsTail 1 4 (2 ∷ 3 ∷ []) 2 (2 ∷ 3 ∷ [])
+of_the_pool = record { increasing = (lit≤ tt, lit≤ tt, (lit≤ tt, lit≤ tt, tt)); count = refl; inside = λ n h. h }
+
+all_are_open : AreOpen 4 (3 ∷ 4 ∷ []) chosen_none
+unfolding chosen_none
+all_are_open = open-start 4 2 (3 ∷ 4 ∷ []) [] (1 ∷ 2 ∷ 3 ∷ 4 ∷ []) 2 (lit≤ tt, lit≤ tt, (lit≤ tt, lit≤ tt, (lit≤ tt, lit≤ tt, (lit≤ tt, lit≤ tt, tt))))
+
+one_member_is_eligible : is_eligible Pjr (3 ∷ 4 ∷ []) 2 chosen_none (1 ∷ 3 ∷ []) ≡ true
+unfolding chosen_none
+one_member_is_eligible = refl
+
+two_members_are_not : is_eligible Pjr (3 ∷ 4 ∷ []) 2 chosen_none (1 ∷ 3 ∷ 4 ∷ []) ≡ false
+unfolding chosen_none
+two_members_are_not = refl
+
+one_candidate_is_too_few : may_belong Ejr (3 ∷ 4 ∷ []) 2 chosen_none (1 ∷ []) ≡ false
+unfolding chosen_none
+one_candidate_is_too_few = refl
+
+both_may_belong : possible_voters Pjr split (3 ∷ 4 ∷ []) 2 chosen_none ≡ 1 ∷ 1 ∷ []
+unfolding chosen_none split
+both_may_belong = refl
+
+one_supports_three : supporters Pjr split (3 ∷ 4 ∷ []) 2 chosen_none 3 ≡ 1 ∷ 0 ∷ []
+unfolding chosen_none split
+one_supports_three = refl
+
+lacking : obstacles (record { candidates = 1 ∷ 2 ∷ 4 ∷ []; spared = 1; approved = true }) (1 ∷ 3 ∷ []) ≡ 2 ∷ 4 ∷ []
+lacking = refl
+
+unwanted : obstacles (record { candidates = 3 ∷ 4 ∷ []; spared = 1; approved = false }) (1 ∷ 3 ∷ []) ≡ 3 ∷ []
+unwanted = refl
+
+half_of_three_votes : charge Pjr (3 ∷ 4 ∷ []) 2 chosen_none (record { candidates = 1 ∷ 2 ∷ 3 ∷ 4 ∷ []; spared = 2; approved = true }) 4 (1 ∷ 3 ∷ [], 3) ≡ 1572864
+unfolding chosen_none
+half_of_three_votes = refl
+
+too_few_to_agree : CannotAgree Pjr split (3 ∷ 4 ∷ []) 2 (with_candidate chosen_none 3) (record { candidates = []; spared = 0; approved = true })
+unfolding chosen_none split
+too_few_to_agree = λ spared are. refl
+
+two_of_one : IsRefuted Pjr split (3 ∷ 4 ∷ []) 2 (choices_of (3 ∷ 4 ∷ []) 2 [] (1 ∷ []) 2)
+unfolding split
+two_of_one = refuted_by_pool Pjr split (3 ∷ 4 ∷ []) 2 (choices_of (3 ∷ 4 ∷ []) 2 [] (1 ∷ []) 2) (lit≤ tt, lit≤ tt, tt) (lit≤ tt)
+
+three_is_open : IsFinding Pjr split (3 ∷ 4 ∷ []) 2 chosen_none (Member 3)
+unfolding chosen_none
+three_is_open = refl

@@ -1,12 +1,11 @@
 -- Refutations: what shows that T and U of some choices have no large group.
 use Rattle.std.proofs.Common.{◌≡◌, ℕ, zero, suc, ◌+◌, ◌-◌, ◌*◌, ◌/◌, ◌%◌, ◌<◌, ◌≤◌, ◌==◌, ◌&&◌, ◌||◌, ◌++◌, Bool, true, false, cond, List, [], ◌∷◌, refl, sym, ap, subst, ◌∙◌, arith, inl, inr, None, length, filter, sum, take, not}
 use Rattle.std.specs.Prelude.{find, min, nat_le, nat_lt}
-use Rattle.std.specs.List.{AllByRecursion, list_all, range_with_len}
-use Rattle.std.proofs.lemmas.Bool.{and_from, and_parts, eqb-true, eq-eqb, le-leb, lt-leb, leb-true, cases_lt, cases_eq, or_right, or_left}
+use Rattle.std.specs.List.{AllByRecursion, list_all}
+use Rattle.std.proofs.lemmas.Bool.{and_from, and_parts, eqb-true, eq-eqb, le-leb, lt-leb, cases_lt, cases_eq, or_right, or_left}
 use Rattle.std.proofs.lemmas.Grind.{div_ceil_times}
 use Rattle.std.proofs.lemmas.Nat.{mul-le}
 use Rattle.std.proofs.lemmas.List.{append-nil, length-take-le}
-use Rattle.std.proofs.lemmas.List.Filters.{length-filter_both}
 use Rattle.std.proofs.lemmas.List.Folds.{list_all-append, list_any-append}
 use Rattle.ballot_base.specs.Lists.{IsIncreasing}
 use Rattle.ballot_base.specs.CandSet.{has_member, with_member, without_member, common_members, other_members, includes}
@@ -18,8 +17,8 @@ use Rattle.ballot_base.proofs.ListLemmas.{AllByRecursion-weaker}
 use Rattle.group_check.specs.declared.property.Property.{Property}
 use Rattle.group_check.specs.declared.property.Property.TheVariants.{Jr, Pjr, Ejr, EjrPlus}
 use Rattle.group_check.specs.declared.refutation.Choices.{Choices}
-use Rattle.group_check.specs.Report.{fits_pair, group_of, pair_group, lists_within, pair_breaks}
-use Rattle.group_check.specs.Steps.Checking.{IsTail, is_large, is_below, is_around, is_enough_within, completions, sublists, first_of, first_of_lists, pairs_of}
+use Rattle.group_check.specs.Report.{fits_pair, pair_group, lists_within, pair_breaks}
+use Rattle.group_check.specs.Steps.Checking.{IsTail, is_large, is_enough_within, completions, sublists, first_of, first_of_lists, pairs_of}
 use Rattle.group_check.specs.Steps.Refuting.{AreOpen, IsRefuted, is_eligible, may_belong, possible_voters, supporters, with_candidate, with_committee_member, choices_of, choices_beside}
 use Rattle.group_check.proofs.SetLemmas.{passes_at, all_pass, length-within, length-common_members, IsIncreasing-take, or_mono}
 use Rattle.group_check.proofs.TestLemmas.{list_all-weaker}

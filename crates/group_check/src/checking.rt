@@ -276,7 +276,10 @@ fn supporting_voters<A: Allocator + Copy>(profile: &Profile<A>, violation: &Viol
 }
 
 /// The number of voters whose ballots pass the test.
-pub fn voters_with<A: Allocator + Copy, F: Fn(CandSet) -> bool>(profile: &Profile<A>, passes: F) -> u64
+pub fn voters_with<A: Allocator + Copy, F: Fn(CandSet) -> bool>(
+    profile: &Profile<A>,
+    passes: F,
+) -> u64
     requires { F.IsAlwaysCallable passes }
     ensures group { (test : List ℕ → Bool) → Computes (F.post passes) test
         → result ≡ sum (group_of test profile.now.rows) }

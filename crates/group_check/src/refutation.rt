@@ -11,7 +11,7 @@ ghost use Rattle.ballot_base.specs.Limits.{most_candidates};
 ghost use Rattle.ballot_base.specs.Ballots.{IsElection};
 ghost use Rattle.group_check.specs.Steps.Refuting.{AreOpen, IsRefuted, CannotAgree, IsFinding, with_candidate, with_committee_member, may_belong, possible_voters, supporters, obstacles, charge};
 
-use crate::checking::{voters_with, Search};
+use crate::checking::{Search, voters_with};
 use crate::property::Property;
 use ballot_base::{CandSet, Worths};
 use std::alloc::Allocator;
@@ -113,7 +113,8 @@ impl<A: Allocator + Copy> Search<'_, A> {
             Finding::Candidate(candidate) => {
                 let rest = choices.pool.without(candidate);
                 let pool = rest.minus(self.clones.class(candidate));
-                self.is_refuted(choices.with_candidate(candidate)) && self.is_refuted(Choices { pool, ..choices })
+                self.is_refuted(choices.with_candidate(candidate))
+                    && self.is_refuted(Choices { pool, ..choices })
             }
             Finding::Member(member) => {
                 let members = choices.members.without(member);
@@ -159,7 +160,9 @@ impl<A: Allocator + Copy> Search<'_, A> {
                 approved.len() <= approved.common(choices.within).len() + more
             }
         };
-        ballot.includes(choices.shared) && is_below && ballot.common(choices.pool).len() >= choices.left
+        ballot.includes(choices.shared)
+            && is_below
+            && ballot.common(choices.pool).len() >= choices.left
     }
 
     /// For each candidate, the number of its voters who can belong to a group of these choices.
@@ -212,8 +215,12 @@ impl<A: Allocator + Copy> Search<'_, A> {
         }
         let charges = self.charges(choices, agreement);
         let spare = u128::from(voters.saturating_sub(self.needed())) * UNITS;
-        let due = charges.excess(agreement.candidates, 0).saturating_sub(spare);
-        charges.members_for(agreement.candidates, agreement.spared, due).is_none()
+        let due = charges
+            .excess(agreement.candidates, 0)
+            .saturating_sub(spare);
+        charges
+            .members_for(agreement.candidates, agreement.spared, due)
+            .is_none()
     }
 
     /// For each candidate, its part of the votes of those to whom it is an obstacle.
@@ -239,7 +246,9 @@ impl<A: Allocator + Copy> Search<'_, A> {
     fn next_choice(&self, choices: &Choices, supporters: &Worths, voters: u64) -> Finding
         ensures { IsFinding self.now.property self.now.profile.now self.now.committee self.now.level choices.now result }
     {
-        if self.property == Property::Pjr && supporters.at_least(choices.members, 1).len() > choices.room {
+        if self.property == Property::Pjr
+            && supporters.at_least(choices.members, 1).len() > choices.room
+        {
             return match supporters.best_of(choices.members) {
                 Some(member) => Finding::Member(member),
                 None => Finding::Unclear,

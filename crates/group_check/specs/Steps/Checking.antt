@@ -1,6 +1,6 @@
 -- What the steps of the search for a violation give.
-use Rattle.std.specs.Prelude.{◌≡◌, ℕ, zero, suc, ◌+◌, ◌-◌, ◌*◌, ◌&&◌, ◌++◌, Bool, true, List, [], ◌∷◌, ⊤, IsTrue, length, map, filter, flat_map, find, sum, nat_le, nat_lt, Option, option_map, min}
-use Rattle.std.specs.List.{list_all, range_with_len}
+use Rattle.std.specs.Prelude.{◌≡◌, ℕ, zero, suc, ◌+◌, ◌-◌, ◌*◌, ◌&&◌, ◌++◌, Bool, true, List, [], ◌∷◌, ⊤, IsTrue, length, map, flat_map, find, sum, nat_le, nat_lt, Option, option_map, min}
+use Rattle.std.specs.List.{list_all}
 use Rattle.ballot_base.specs.Lists.{IsIncreasing}
 use Rattle.ballot_base.specs.CandSet.{has_member, common_members, includes}
 use Rattle.ballot_base.specs.Ballots.{Election, voter_count}

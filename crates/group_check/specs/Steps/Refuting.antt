@@ -1,5 +1,5 @@
 -- T and U as far as they are chosen, and what shows that they have no large group.
-use Rattle.std.specs.Prelude.{◌≡◌, ℕ, ◌+◌, ◌-◌, ◌*◌, ◌/◌, ◌^◌, ◌<◌, ◌≤◌, ◌&&◌, ◌++◌, Bool, true, false, List, [], ⊤, IsTrue, length, filter, sum, nat_le, if◌then◌else◌}
+use Rattle.std.specs.Prelude.{◌≡◌, ℕ, ◌-◌, ◌*◌, ◌/◌, ◌^◌, ◌<◌, ◌≤◌, ◌&&◌, ◌++◌, Bool, true, false, List, [], ⊤, length, sum, nat_le, if◌then◌else◌}
 use Rattle.ballot_base.specs.Lists.{IsIncreasing}
 use Rattle.ballot_base.specs.CandSet.{has_member, with_member, without_member, common_members, other_members, includes}
 use Rattle.ballot_base.specs.Ballots.{Row, Election}

@@ -44,8 +44,8 @@ is_refuted-requires g t c =
     let rest = c.in_ok-candidate.rest in
     let more = with_member c.args.shared x in
     rw (c.choices.ensures, c.with-more.ensures)
-        (open-start m s.level s.committee more rest (c.args.left - 1)
-        (IsIncreasing-rest 1 m more rest (IsIncreasing-with 1 m c.args.shared x rest (rw c.in_ok-candidate.ensures at c.requires.order))))
+    (open-start m s.level s.committee more rest (c.args.left - 1)
+    (IsIncreasing-rest 1 m more rest (IsIncreasing-with 1 m c.args.shared x rest (rw c.in_ok-candidate.ensures at c.requires.order))))
 
 pub first_beyond-found-requires : goal.first_beyond-found-requires
 first_beyond-found-requires g t c κs within =

@@ -47,8 +47,8 @@ is_refuted-requires g t c =
     let x = c.in_ok-member.member in
     let rest = c.in_ok-member.rest in
     rw (c.beside.ensures, c.with-more.ensures)
-        (open-beside s.profile.now.m s.committee c.args.shared c.args.within x rest (s.level - 1 - c.len.result - 1) (rw c.in_ok-member.ensures at c.requires.order)
-        (share_without (has_member s.committee) [] x rest (rw c.in_ok-member.ensures at c.requires.members)))
+    (open-beside s.profile.now.m s.committee c.args.shared c.args.within x rest (s.level - 1 - c.len.result - 1) (rw c.in_ok-member.ensures at c.requires.order)
+    (share_without (has_member s.committee) [] x rest (rw c.in_ok-member.ensures at c.requires.members)))
 
 pub first_within-found-requires : goal.first_within-found-requires
 first_within-found-requires g t c κs within =
@@ -103,12 +103,12 @@ first_within-requires g t c κs within =
         (
           c.requires.property,
           (
-          rw c.minus-others.ensures (share-kept (has_member s.committee) stays [] rest (share_without (has_member s.committee) [] x rest (rw c.in_ok-member.ensures at c.requires.members))),
-          (
-            rw c.minus-others.ensures
-                (order-kept stays 1 s.profile.now.m c.args.within rest (IsIncreasing-without 1 s.profile.now.m c.args.within x rest (rw c.in_ok-member.ensures at c.requires.order))),
-            c.requires.size,
-          ),
+            rw c.minus-others.ensures (share-kept (has_member s.committee) stays [] rest (share_without (has_member s.committee) [] x rest (rw c.in_ok-member.ensures at c.requires.members))),
+            (
+              rw c.minus-others.ensures
+                  (order-kept stays 1 s.profile.now.m c.args.within rest (IsIncreasing-without 1 s.profile.now.m c.args.within x rest (rw c.in_ok-member.ensures at c.requires.order))),
+              c.requires.size,
+            ),
           ),
         ),
       ),

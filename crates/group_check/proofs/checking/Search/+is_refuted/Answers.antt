@@ -1,4 +1,4 @@
-use Rattle.std.proofs.Common.{◌≡◌, ℕ, ◌≤◌, ◌∙◌, ap, arith, sym, length, not}
+use Rattle.std.proofs.Common.{◌∙◌, arith, sym, not}
 use Rattle.ballot_base.specs.CandSet.{has_member, without_member}
 use Rattle.group_check.proofs.CloneLemmas.{length-kept}
 use Rattle.group_check.proofs.RefutationLemmas.{fewer-without, member-bounds, open-with_candidate, open-without_candidate, open-with_member, open-without_member, split_candidate, split_member}

@@ -1,4 +1,4 @@
-use Rattle.std.proofs.Common.{◌*◌, ◌^◌, ◌∙◌, ap, arith, sym}
+use Rattle.std.proofs.Common.{◌*◌, ◌^◌, arith}
 use Rattle.group_check.proofs.TestLemmas.{nothing_there}
 use Rattle.group_check.proofs.ChargeLemmas.{too_few_agree}
 use Rattle.group_check.proofs.checking.Search.cannot_agree.Goals as goal

@@ -1,4 +1,4 @@
-use Rattle.std.proofs.Common.{◌≡◌, ℕ, ◌+◌, ◌*◌, ◌/◌, ◌^◌, ◌≤◌, ◌&&◌, ◌∙◌, [], cond, get_or, length, refl, sym, ap, arith}
+use Rattle.std.proofs.Common.{◌≡◌, ℕ, ◌*◌, ◌/◌, ◌^◌, ◌&&◌, ◌∙◌, cond, length, refl, sym, ap, arith}
 use Rattle.std.specs.Prelude.{sum_by}
 use Rattle.std.proofs.lemmas.List.{length_push}
 use Rattle.ballot_base.specs.Ballots.{Row}
@@ -6,7 +6,7 @@ use Rattle.ballot_base.specs.CandSet.{has_member}
 use Rattle.ballot_base.proofs.Turns.{row_of_turn, all_passed}
 use Rattle.group_check.specs.Steps.Refuting.{may_belong, obstacles, charge}
 use Rattle.group_check.proofs.ChargeLemmas.{part-of-all, no-member}
-use Rattle.group_check.proofs.VoterLemmas.{votes_passing, everyone, votes-more, votes-yes, sum-more, at-most-all}
+use Rattle.group_check.proofs.VoterLemmas.{everyone, votes-more, votes-yes, sum-more, at-most-all}
 use Rattle.group_check.proofs.checking.Search.charges.Goals as goal
 use Rattle.group_check.proofs.checking.Search.charges.Goals.{else-size-gt0-via-then-size-gt0+else-may_belong, else-size-gt0-via-else-size-gt0}
 
@@ -27,15 +27,15 @@ loop-ballot-preserved-then-may_belong g c =
           rw length_push (omega (arith, sum-more part rows (length c.loop-ballot.yielded) row at, c.loop-ballot.invariant.charged n, is, added n));
       few = λ n.
           rw length_push
-              (omega (
-                arith,
-                votes-more everyone rows (length c.loop-ballot.yielded) row at,
-                votes-yes everyone row refl,
-                c.loop-ballot.invariant.few n,
-                added n,
-                at-most-all (has_member against n) share,
-                part-of-all (row.1 * 2 ^ 20) (length against),
-              ));
+          (omega (
+            arith,
+            votes-more everyone rows (length c.loop-ballot.yielded) row at,
+            votes-yes everyone row refl,
+            c.loop-ballot.invariant.few n,
+            added n,
+            at-most-all (has_member against n) share,
+            part-of-all (row.1 * 2 ^ 20) (length against),
+          ));
     }
 
 pub loop-ballot-preserved : goal.loop-ballot-preserved

@@ -1,4 +1,4 @@
-use Rattle.std.proofs.Common.{◌≡◌, ℕ, ◌*◌, ◌^◌, ◌≤◌, List, length, take, get_or}
+use Rattle.std.proofs.Common.{◌≡◌, ℕ, ◌*◌, ◌^◌, ◌≤◌, length, take, get_or}
 use Rattle.std.specs.Prelude.{sum_by}
 use Rattle.group_check.specs.Steps.Refuting.{charge}
 use Rattle.group_check.proofs.VoterLemmas.{votes_passing, everyone}

@@ -1,9 +1,9 @@
-use Rattle.std.proofs.Common.{◌≡◌, ℕ, ap, arith, sym, ◌∙◌, rules, sum, true}
+use Rattle.std.proofs.Common.{◌≡◌, ℕ, ap, arith, sym, ◌∙◌, rules, sum}
 use Rattle.std.specs.Prelude.{nat_le, slice_index}
 use Rattle.std.proofs.lemmas.Bool.{lt-leb}
 use Rattle.ballot_base.proofs.Increasing.{IsIncreasing-filter}
 use Rattle.group_check.specs.Steps.Checking.{is_large}
-use Rattle.group_check.specs.Steps.Refuting.{possible_voters, supporters}
+use Rattle.group_check.specs.Steps.Refuting.{possible_voters}
 use Rattle.group_check.proofs.RefutationLemmas.{refuted_by_voters, refuted_by_pool, peeled}
 use Rattle.group_check.proofs.checking.Search.finding.Goals as goal
 use Rattle.group_check.proofs.checking.Search.finding.Goals.{then-voters-needed-via-then-voters-needed, then-voters-needed-via-else-voters-needed+then-len-choices}

@@ -14,8 +14,8 @@ is_refuted-requires g c =
     let s = c.args.self.now in
     let m = s.profile.now.m in
     rw (c.choices.ensures, c.shareable-pool.ensures.candidates)
-        (open-start m s.level s.committee c.empty-nobody.result (filter (may_share s.property s.committee) (range_with_len 1 m)) c.shared_size-size.result
-        (IsIncreasing-filter (may_share s.property s.committee) 1 m (range_with_len 1 m) (IsIncreasing-range 1 m m (omega arith))))
+    (open-start m s.level s.committee c.empty-nobody.result (filter (may_share s.property s.committee) (range_with_len 1 m)) c.shared_size-size.result
+    (IsIncreasing-filter (may_share s.property s.committee) 1 m (range_with_len 1 m) (IsIncreasing-range 1 m m (omega arith))))
 
 pub returns-then-is_refuted : goal.returns-then-is_refuted
 returns-then-is_refuted g c =
@@ -32,7 +32,7 @@ first_beyond-requires-clause-order g c =
     let s = c.args.self.now in
     let m = s.profile.now.m in
     rw (c.empty-nobody.ensures, c.shareable-pool.ensures.candidates)
-        (IsIncreasing-filter (may_share s.property s.committee) 1 m (range_with_len 1 m) (IsIncreasing-range 1 m m (omega arith)))
+    (IsIncreasing-filter (may_share s.property s.committee) 1 m (range_with_len 1 m) (IsIncreasing-range 1 m m (omega arith)))
 
 pub first_beyond-requires-clause-shared : goal.first_beyond-requires-clause-shared
 first_beyond-requires-clause-shared g c =

@@ -24,14 +24,14 @@ loop-ballot-preserved-then-may_belong g c =
       few = λ n.
           let added = c.add.ensures n ∙ ap (λ x. get_or c.loop-ballot.supporters n 0 + cond (has_member row.0 n) x 0) c.from.ensures in
           rw length_push
-              (omega (
-                arith,
-                votes-more everyone rows (length c.loop-ballot.yielded) row at,
-                votes-yes everyone row refl,
-                c.loop-ballot.invariant.few n,
-                added,
-                at-most-all (has_member row.0 n) row.1,
-              ));
+          (omega (
+            arith,
+            votes-more everyone rows (length c.loop-ballot.yielded) row at,
+            votes-yes everyone row refl,
+            c.loop-ballot.invariant.few n,
+            added,
+            at-most-all (has_member row.0 n) row.1,
+          ));
     }
 
 pub loop-ballot-preserved : goal.loop-ballot-preserved

@@ -1,4 +1,4 @@
-use Rattle.std.proofs.Common.{◌≡◌, ℕ, ◌≤◌, ◌&&◌, List, length, take, get_or}
+use Rattle.std.proofs.Common.{◌≡◌, ℕ, ◌≤◌, ◌&&◌, length, take, get_or}
 use Rattle.std.specs.Prelude.{sum_by}
 use Rattle.ballot_base.specs.CandSet.{has_member}
 use Rattle.group_check.specs.Steps.Refuting.{may_belong}
