@@ -1,11 +1,11 @@
-//! Refutations: T and U can be chosen from given candidates in no way that gives a large group.
+//! Refutations: no choice of T and U from given candidates gives a large group.
 //!
-//! - Peeling: a voter who approves too few candidates that T can take, or more members than U has room for, belongs to
-//!   no group. T takes no candidate whom too few of the other voters approve.
-//! - Charges: a voter who stays in a group has no obstacle to it, that is, no candidate of T that the voter does not
-//!   approve, and no approved member outside U. So each voter's vote is split among the obstacles that T and U can
-//!   have, and a group lacks at least the votes that are charged to the obstacles it has.
-//! - What neither refutes is split: into the lists with a candidate and those without it.
+//! - Peeling: a voter who approves too few of the candidates that T can take, or more members than U has room for,
+//!   belongs to no group. T contains no candidate with too few supporters among the other voters.
+//! - Charges: a candidate of T that a voter does not approve, or an approved member outside U, is an obstacle: it keeps
+//!   the voter out of the group. Each voter's vote is split evenly among the obstacles that T and U can have. A group
+//!   lacks at least the votes that are charged to the candidates in T, or to the members outside U.
+//! - Choices that neither refutes are split: into those with some candidate and those without it.
 ghost use Rattle.std.specs.Prelude.{◌≡◌, ℕ, ◌≤◌, IsTrue, slice_index, sum, sum_by, length};
 ghost use Rattle.ballot_base.specs.Limits.{most_candidates};
 ghost use Rattle.ballot_base.specs.Ballots.{IsElection};
@@ -85,7 +85,7 @@ impl Agreement {
     }
 }
 
-/// What a look at all voters shows of the choices.
+/// What the ballots show about the choices.
 enum Finding {
     /// No list T and U has a large group.
     Refuted,
@@ -244,7 +244,8 @@ impl<A: Allocator + Copy> Search<'_, A> {
     /// What to choose next: members of the committee while the voters approve more of them than U has room for, and
     /// then candidates, unless the voters agree on enough of them. The most approved come first.
     fn next_choice(&self, choices: &Choices, supporters: &Worths, voters: u64) -> Finding
-        ensures { IsFinding self.now.property self.now.profile.now self.now.committee self.now.level choices.now result }
+        ensures { IsFinding self.now.property self.now.profile.now self.now.committee self.now.level choices.now
+            result }
     {
         if self.property == Property::Pjr
             && supporters.at_least(choices.members, 1).len() > choices.room

@@ -44,7 +44,8 @@ with_committee_member choices n =
 -- no T and U of these choices have a large group
 abbrev pub IsRefuted : Property → Election → List ℕ → ℕ → Choices → Type 0
 IsRefuted property e committee level choices =
-    (more others : List ℕ) → IsTail 1 e.m choices.pool choices.left more → IsTail 1 e.m choices.members choices.room others
+    (more others : List ℕ)
+    → IsTail 1 e.m choices.pool choices.left more → IsTail 1 e.m choices.members choices.room others
     → is_large e committee level
     (sum (pair_group property e committee level (choices.shared ++ more, choices.within ++ others))) ≡ false
 
