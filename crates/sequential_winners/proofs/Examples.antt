@@ -10,7 +10,7 @@ use Rattle.ballot_base.specs.Clones.{are_clones, clones_among}
 use Rattle.sequential_winners.specs.Clones.{clone_count, has_as_many, is_between}
 use Rattle.sequential_winners.specs.Families.{sequential_of, is_winner, some_winner}
 use Rattle.sequential_winners.specs.Steps.Families.{may_be_in}
-use Rattle.sequential_winners.specs.Steps.Levels.{is_first_open, is_settled, has_settled, ties, tied_worth, shares_no_voter, is_independent, end, chosen, family_changes, other_end}
+use Rattle.sequential_winners.specs.Steps.Levels.{is_first_open, is_settled, has_settled, ties, tied_worth, shares_no_voter, is_independent, end, chosen, followers, family_changes, other_end}
 use Rattle.sequential_winners.specs.Steps.Tables.{completed}
 
 -- of the candidates 1 to 5, three voters approve 1 and 2, and one voter 3; nobody approves 4 and 5
@@ -45,8 +45,8 @@ first_of_clones : (is_first_open Grow (1 ∷ 2 ∷ []) (1 ∷ []) 2 ≡ true) ×
 first_of_clones = (refl, refl, refl)
 
 -- of the clones 1 and 2, who tie, the first is followed alone, and a settled set stays
-changes : (family_changes Grow (hit_weights SeqCc 5) 5 few.rows 0 [] ≡ (1 ∷ []) ∷ []) × (family_changes Grow (hit_weights SeqCc 5) 5 few.rows 2 (1 ∷ 3 ∷ []) ≡ (1 ∷ 3 ∷ []) ∷ [])
-unfolding few hit_weights family_changes end
+changes : (family_changes Grow (hit_weights SeqCc 5) 5 few.rows 3 0 [] ≡ (1 ∷ []) ∷ []) × (family_changes Grow (hit_weights SeqCc 5) 5 few.rows 3 2 (1 ∷ 3 ∷ []) ≡ (1 ∷ 3 ∷ []) ∷ [])
+unfolding few hit_weights followers end
 changes = (refl, refl)
 
 -- of the candidates 1 to 4, two voters each approve 1, and 2, and one voter each 3, and 4
@@ -73,10 +73,11 @@ ends = (refl, refl, refl)
 choices_made : (chosen Grow 4 (1 ∷ 2 ∷ 3 ∷ []) ≡ 3) × (chosen Shrink 4 (1 ∷ 2 ∷ 3 ∷ []) ≡ 1)
 choices_made = (refl, refl)
 
--- so the set stays until both are chosen
-followed_by : (family_changes Grow (hit_weights SeqCc 4) 4 apart.rows 0 [] ≡ [] ∷ []) × (family_changes Grow (hit_weights SeqCc 4) 4 apart.rows 1 [] ≡ (1 ∷ 2 ∷ []) ∷ [])
-unfolding apart hit_weights family_changes end
-followed_by = (refl, refl)
+-- so both are chosen at once where there are two choices, and where there is one the set stays; and a set stays that
+-- waits for its level
+followed_by : (followers Grow (hit_weights SeqCc 4) 4 apart.rows 2 [] ≡ (1 ∷ 2 ∷ []) ∷ []) × (followers Grow (hit_weights SeqCc 4) 4 apart.rows 1 [] ≡ [] ∷ []) × (family_changes Grow (hit_weights SeqCc 4) 4 apart.rows 3 1 (1 ∷ 2 ∷ []) ≡ (1 ∷ 2 ∷ []) ∷ [])
+unfolding apart hit_weights followers end
+followed_by = (refl, refl, refl)
 
 other_ends : (other_end Grow (hit_weights SeqCc 4) 4 apart.rows 1 [] ≡ 1 ∷ 2 ∷ []) × (other_end Grow (hit_weights SeqCc 4) 4 apart.rows 0 [] ≡ [])
 unfolding apart hit_weights end

@@ -1,5 +1,5 @@
 -- The families of the last level have the winners of a sequential rule.
-use Rattle.std.proofs.Common.{◌≡◌, ℕ, zero, suc, ◌<◌, ◌≤◌, ◌==◌, ◌||◌, ◌∙◌, Bool, true, false, cond, Option, Some, List, [], ◌∷◌, refl, sym, ap, subst, arith, inl, inr, length, map, Contains}
+use Rattle.std.proofs.Common.{◌≡◌, ℕ, zero, suc, ◌-◌, ◌<◌, ◌≤◌, ◌==◌, ◌||◌, ◌∙◌, Bool, true, false, cond, Some, List, [], ◌∷◌, refl, sym, ap, subst, arith, inl, inr, length, map, Contains}
 use Rattle.std.specs.Prelude.{slice_index_or}
 use Rattle.std.specs.List.{list_all, list_any, zip, AllByRecursion}
 use Rattle.std.specs.List.Sorted.{IsStrictlySortedBy}
@@ -18,9 +18,9 @@ use Rattle.tie_walk.specs.declared.sequential.Step.{Step}
 use Rattle.tie_walk.specs.declared.sequential.Step.TheVariants.{Grow, Shrink}
 use Rattle.tie_walk.proofs.RowSums.{AreBallots}
 use Rattle.sequential_winners.specs.Clones.{has_as_many, is_between}
-use Rattle.sequential_winners.specs.Steps.Levels.{end, end_or, chosen, other_end, IsBelow, IsAhead, IsOf, IsPlaced, IsFamilyLevel, AreFamilies, AreReached, other_end_by}
+use Rattle.sequential_winners.specs.Steps.Levels.{end, end_or, chosen, other_end, IsBelow, IsAhead, LeadsTo, IsPlaced, IsFamilyLevel, AreFamilies, AreReached, other_end_by}
 use Rattle.sequential_winners.proofs.Lists.{same_tests, count-others}
-use Rattle.sequential_winners.proofs.LevelLemmas.{ahead-turned, level-candidates}
+use Rattle.sequential_winners.proofs.LevelLemmas.{Completes, span-leads, leads-within, level-candidates}
 use Rattle.sequential_winners.proofs.SpanLemmas.{IsSpan, end-span}
 use Rattle.sequential_winners.proofs.WinnerLemmas.{many-from, below-from, any-from, any-at, hit_weights-fall, rule-size, reached-wins, winner-reached}
 
@@ -88,7 +88,7 @@ module _ (m : ℕ) (rows : List Row) (committee set other : List ℕ) (up : IsIn
 -- ---- the families of a level, and their other ends
 
 module _ (rule : SeqRule) (e : Election) (k : ℕ) (fits : k ≤ e.m) (ballots : AreBallots e.m e.rows) (sets : List (List ℕ))
-    (level : IsFamilyLevel (step_of rule) (hit_weights rule e.m) e.m e.rows (choices_of rule e.m k) sets)
+    (level : IsFamilyLevel (step_of rule) (hit_weights rule e.m) e.m e.rows (choices_of rule e.m k) (choices_of rule e.m k) sets)
   where
     abbrev step : Step
     step = step_of rule
@@ -104,8 +104,9 @@ module _ (rule : SeqRule) (e : Election) (k : ℕ) (fits : k ≤ e.m) (ballots :
       pub increasing : IsIncreasing 1 e.m last
       pub ahead : IsAhead step e.m e.rows set last
       pub same : length last ≡ k → last ≡ set
-      pub until : (committee : List ℕ) → chosen step e.m committee ≡ size → IsOf step (hit_weights rule e.m) e.m e.rows set committee → IsAhead step e.m e.rows committee last
-      pub has : (committee : List ℕ) → IsAhead step e.m e.rows set committee → IsAhead step e.m e.rows committee last → IsOf step (hit_weights rule e.m) e.m e.rows set committee
+      pub within : (committee : List ℕ) → Completes step (hit_weights rule e.m) e.m e.rows size committee set → IsAhead step e.m e.rows set committee × IsAhead step e.m e.rows committee last
+      pub has : (committee : List ℕ) → IsIncreasing 1 e.m committee → chosen step e.m committee ≡ size → IsAhead step e.m e.rows set committee → IsAhead step e.m e.rows committee last
+          → Completes step (hit_weights rule e.m) e.m e.rows size committee set
 
     -- the other end is the set itself where it is of size k, else its end
     other-is : (set : List ℕ) → Contains sets set → IsOther set (other set)
@@ -117,10 +118,10 @@ module _ (rule : SeqRule) (e : Election) (k : ℕ) (fits : k ≤ e.m) (ballots :
             increasing = up;
             ahead = λ c. omega arith;
             same = λ long. refl;
-            until = λ committee sized of. ahead-turned step e.m e.rows set committee (omega (arith, many, sized)) of.ahead;
-            has = λ committee ahead until. record { ahead = ahead; until = λ last is' c. omega (arith, until c, (span last is').ahead c) };
+            within = λ committee leads. let here = subst (λ n. LeadsTo step (hit_weights rule e.m) e.m e.rows committee n set) (none-left many) leads in (here.0, here.1);
+            has = λ committee up' sized ahead until. subst (λ n. LeadsTo step (hit_weights rule e.m) e.m e.rows committee n set) (sym (none-left many)) (ahead, until);
           })
-      | inr differs ↦ by differs (end step (hit_weights rule e.m) e.m e.rows set) refl (level.placed set inside)
+      | inr differs ↦ by differs (level.placed set inside)
     ]
       where
         up : IsIncreasing 1 e.m set
@@ -129,17 +130,22 @@ module _ (rule : SeqRule) (e : Election) (k : ℕ) (fits : k ≤ e.m) (ballots :
         span : (last : List ℕ) → end step (hit_weights rule e.m) e.m e.rows set ≡ Some last → IsSpan step (hit_weights rule e.m) e.m e.rows set last
         span last is = (end-span step (hit_weights rule e.m) e.m e.rows ballots (hit_weights-fall rule e.m) set last up is).0
 
-        by : (length set == k) ≡ false → (o : Option (List ℕ)) → end step (hit_weights rule e.m) e.m e.rows set ≡ o → IsPlaced step (hit_weights rule e.m) e.m e.rows size set → IsOther set (other set)
-        by differs o is (inl sized) = absurd (both_ways (length set == k) differs (eq-eqb (length set) k ((rule-size rule e.m k set fits up).1 sized)))
-        by differs o is (inr placed) =
-            let last : List ℕ = placed.1.0 in
-            subst (IsOther set) (sym (ap (λ b. cond b set (end_or set (end step (hit_weights rule e.m) e.m e.rows set))) differs ∙ ap (end_or set) placed.1.1))
+        none-left : chosen step e.m set ≡ size → size - chosen step e.m set ≡ 0
+        none-left many = omega (arith, many)
+
+        by : (length set == k) ≡ false → IsPlaced step (hit_weights rule e.m) e.m e.rows size size set → IsOther set (other set)
+        by differs (few, inl many) = absurd (both_ways (length set == k) differs (eq-eqb (length set) k ((rule-size rule e.m k set fits up).1 (omega (arith, few, many)))))
+        by differs (few, inr lasting) =
+            let last : List ℕ = lasting.0 in
+            let between = span last lasting.1 in
+            subst (IsOther set) (sym (ap (λ b. cond b set (end_or set (end step (hit_weights rule e.m) e.m e.rows set))) differs ∙ ap (end_or set) lasting.1))
             (record {
-              increasing = (span last placed.1.1).increasing;
-              ahead = (span last placed.1.1).ahead;
-              same = λ long. absurd (omega (arith, (rule-size rule e.m k last fits (span last placed.1.1).increasing).0 long, placed.1.2));
-              until = λ committee sized of. of.until last placed.1.1;
-              has = λ committee ahead until. record { ahead = ahead; until = λ last' is'. subst (IsAhead step e.m e.rows committee) (ap (end_or []) (sym placed.1.1 ∙ is')) until };
+              increasing = between.increasing;
+              ahead = between.ahead;
+              same = λ long. absurd (omega (arith, (rule-size rule e.m k last fits between.increasing).0 long, lasting.2));
+              within = λ committee. leads-within step (hit_weights rule e.m) e.m e.rows ballots (hit_weights-fall rule e.m) set last between (size - chosen step e.m set) committee set up (λ c. omega arith) between.ahead (omega (arith, few, lasting.2));
+              has = λ committee up' sized ahead until.
+                  span-leads step (hit_weights rule e.m) e.m e.rows ballots (hit_weights-fall rule e.m) set last between (size - chosen step e.m set) committee set up up' (λ c. omega arith) ahead until (omega (arith, few, sized));
             })
 
     families-win : (committee : List ℕ) → IsIncreasing 1 e.m committee → length committee ≡ k → is_sequential_winner rule e k committee ≡ list_any (λ set. is_spanned step e.m e.rows committee set (other set)) sets
@@ -150,12 +156,13 @@ module _ (rule : SeqRule) (e : Election) (k : ℕ) (fits : k ≤ e.m) (ballots :
         (λ wins.
         let s = level.reached committee (winner-reached rule e k committee wins) in
         let last = other-is s.0 s.1 in
-        any-from spanned sets s.0 s.1 (spanned-from e.m e.rows committee s.0 (other s.0) up (level.candidates s.0 s.1) last.increasing step s.2.ahead (last.until committee sized s.2)))
+        let parts = last.within committee s.2 in
+        any-from spanned sets s.0 s.1 (spanned-from e.m e.rows committee s.0 (other s.0) up (level.candidates s.0 s.1) last.increasing step parts.0 parts.1))
         (λ some.
         let s = any-at spanned sets some in
         let last = other-is s.0 s.1 in
         let parts = spanned-at e.m e.rows committee s.0 (other s.0) up (level.candidates s.0 s.1) last.increasing step s.2 in
-        reached-wins rule e k committee (level.made committee s.0 up sized s.1 (last.has committee parts.0 parts.1)))
+        reached-wins rule e k committee (level.made committee s.0 up s.1 (last.has committee up sized parts.0 parts.1)))
 
 -- ---- the families of the last level
 
@@ -182,14 +189,14 @@ order-is : (step : Step) (k : ℕ) (f : List ℕ → List ℕ) (sets : List (Lis
 order-is Grow k f sets order same all = order
 order-is Shrink k f sets order same all = subst (IsStrictlySortedBy (slice_cmp nat_cmp)) (sym (same-mapped f (λ set. length set == k) sets same all)) order
 
-level-families : (rule : SeqRule) (e : Election) (k : ℕ) → k ≤ e.m → AreBallots e.m e.rows → (sets : List (List ℕ)) → IsFamilyLevel (step_of rule) (hit_weights rule e.m) e.m e.rows (choices_of rule e.m k) sets
+level-families : (rule : SeqRule) (e : Election) (k : ℕ) → k ≤ e.m → AreBallots e.m e.rows → (sets : List (List ℕ)) → IsFamilyLevel (step_of rule) (hit_weights rule e.m) e.m e.rows (choices_of rule e.m k) (choices_of rule e.m k) sets
     → AreFamilies rule e k (leasts_of (step_of rule) sets (map (other_end (step_of rule) (hit_weights rule e.m) e.m e.rows k) sets))
     (mosts_of (step_of rule) sets (map (other_end (step_of rule) (hit_weights rule e.m) e.m e.rows k) sets))
 level-families rule e k fits ballots sets level =
     let step = step_of rule in
     let f : List ℕ → List ℕ = other_end step (hit_weights rule e.m) e.m e.rows k in
     let last = other-is rule e k fits ballots sets level in
-    let ups = level-candidates step (hit_weights rule e.m) e.m e.rows (choices_of rule e.m k) sets level in
+    let ups = level-candidates step (hit_weights rule e.m) e.m e.rows (choices_of rule e.m k) (choices_of rule e.m k) sets level in
     let ends = all-mapped (IsIncreasing 1 e.m) f sets (λ set inside. (last set inside).increasing) in
     record {
       paired = are-paired step f sets;
@@ -202,6 +209,6 @@ level-families rule e k fits ballots sets level =
 
 -- the same, by other names for the parts of the level
 pub last-families : (rule rule' : SeqRule) (e e' : Election) (k size : ℕ) (step : Step) (sets ends : List (List ℕ)) → rule' ≡ rule → e' ≡ e → k ≤ e.m → AreBallots e.m e.rows → step ≡ step_of rule → size ≡ choices_of rule e.m k
-    → AreReached rule' e' size sets → ends ≡ map (other_end_by rule e k) sets → AreFamilies rule e k (leasts_of step sets ends) (mosts_of step sets ends)
+    → AreReached rule' e' size size sets → ends ≡ map (other_end_by rule e k) sets → AreFamilies rule e k (leasts_of step sets ends) (mosts_of step sets ends)
 last-families rule rule' e e' k size step sets ends same same' fits ballots by many level ends-are =
     rw (ends-are, by) (level-families rule e k fits ballots sets (rw (same, same', many) at level))

@@ -1,6 +1,6 @@
 -- The committees of the families of the last level are the winners of a sequential rule.
 use Rattle.std.proofs.lemmas.Grind.{common_steps}
-use Rattle.std.proofs.Common.{◌≡◌, ℕ, zero, suc, ◌+◌, ◌-◌, ◌*◌, ◌/◌, ◌≤◌, ◌∙◌, Bool, true, List, sym, arith, inl, inr, length, get_or, Contains, add-one}
+use Rattle.std.proofs.Common.{◌≡◌, ℕ, zero, suc, ◌+◌, ◌-◌, ◌*◌, ◌/◌, ◌≤◌, ◌∙◌, Bool, true, Some, List, refl, sym, arith, inl, inr, length, get_or, Contains, add-one}
 use Rattle.std.proofs.Math.Nat.{mul-le-mul, mul-div_cancel'}
 use Rattle.std.specs.Prelude.{nat_le}
 use Rattle.std.specs.List.{list_any, range_with_len}
@@ -9,6 +9,7 @@ use Rattle.std.proofs.lemmas.List.{get_or_past}
 use Rattle.std.proofs.lemmas.List.Folds.{Any-from_list_any, list_any-from_Any}
 use Rattle.ballot_base.specs.Lists.{IsIncreasing}
 use Rattle.ballot_base.specs.CommonMultiple.{common_multiple}
+use Rattle.ballot_base.proofs.Committees.{length-increasing}
 use Rattle.ballot_base.specs.Ballots.{Row, Election}
 use Rattle.tie_walk.specs.Sequences.{hit_weight, hit_weights, is_sequential_winner}
 use Rattle.tie_walk.specs.Steps.Choices.{step_of, choices_of, change, is_choice, start}
@@ -22,11 +23,13 @@ use Rattle.tie_walk.proofs.StepLemmas.{has_member-range}
 use Rattle.ballot_base.specs.Clones.{are_clones}
 use Rattle.ballot_base.proofs.LeastMultiples.{common_multiple_divides}
 use Rattle.sequential_winners.specs.Clones.{clone_count, has_as_many}
-use Rattle.sequential_winners.specs.Steps.Levels.{chosen, IsBelow, IsFalling, IsReachedBy}
+use Rattle.sequential_winners.specs.Steps.Levels.{chosen, end_by, IsBelow, IsFalling, IsReachedBy}
 use Rattle.sequential_winners.proofs.CloneLemmas.{clones-sameness}
 use Rattle.sequential_winners.proofs.Lists.{all-at, all-from}
 use Rattle.sequential_winners.proofs.Numbers.{some-passes, count-class}
 use Rattle.sequential_winners.proofs.Picked.{chosen-left}
+use Rattle.sequential_winners.proofs.SpanLemmas.{end-span}
+use Rattle.tie_walk.proofs.RowSums.{AreBallots}
 
 -- ---- after a hit that brings something, the next one brings less
 
@@ -90,6 +93,16 @@ pub rule-size : (rule : SeqRule) (m k : ℕ) (set : List ℕ) → k ≤ m → Is
 rule-size SeqPav m k set fits up = (λ is. is, λ is. is)
 rule-size SeqCc m k set fits up = (λ is. is, λ is. is)
 rule-size RevSeqPav m k set fits up = (λ is. omega (arith, is, fits, chosen-left m set up), λ is. omega (arith, is, fits, chosen-left m set up))
+
+-- how many choices lead to a set, and to an end
+pub set-size : (rule : SeqRule) (m : ℕ) (set : List ℕ) → IsIncreasing 1 m set → (length set ≤ m) × (chosen (step_of rule) m set ≡ choices_of rule m (length set))
+set-size rule m set up =
+    let fits : length set ≤ m = omega (arith, length-increasing 1 m set up) in
+    (fits, (rule-size rule m (length set) set fits up).0 refl)
+
+pub end-size : (rule : SeqRule) (e : Election) (set last : List ℕ) → AreBallots e.m e.rows → IsIncreasing 1 e.m set → end_by rule e set ≡ Some last → (length last ≤ e.m) × (chosen (step_of rule) e.m last ≡ choices_of rule e.m (length last))
+end-size rule e set last ballots up is =
+    set-size rule e.m last (end-span (step_of rule) (hit_weights rule e.m) e.m e.rows ballots (hit_weights-fall rule e.m) set last up is).0.increasing
 
 module _ (rule : SeqRule) (e : Election) (k : ℕ) (set : List ℕ) where
   pub reached-wins : IsReachedBy (step_of rule) (hit_weights rule e.m) e.m e.rows (choices_of rule e.m k) set → is_sequential_winner rule e k set ≡ true

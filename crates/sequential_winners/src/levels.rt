@@ -9,23 +9,24 @@
 //!   were chosen, and no other candidate does, not even a clone (`proofs/SpanLemmas.antt`). They are chosen in any
 //!   order.
 //!
-//! In the last two cases all choices lead to one set, the `end`: all candidates, or the set with all tied ones. The set
-//! stays in the levels until enough choices were made to reach its end, and stands for all sets between the two.
-//! `proofs/LevelLemmas.antt` shows, by induction over levels, that the families have exactly the committees that some
-//! sequence of choices makes.
-ghost use Rattle.std.specs.Prelude.{◌≡◌, ◌<◌, ◌≤◌, None, IfOk};
+//! In the last two cases all choices lead to one set, the `end`: all candidates, or the set with all tied ones. Only the
+//! end is followed, once as many choices were made. If it lies beyond the committee's size, the set stays for good, and
+//! stands for all sets between the two. `proofs/LevelLemmas.antt` shows, by induction over levels, that the choices
+//! still to be made lead from the sets of a level to exactly the committees that some sequence of choices makes.
+ghost use Rattle.std.specs.Prelude.{◌≡◌, ◌≤◌, ◌++◌, None, IfOk, OnOk};
 ghost use Rattle.std.specs.List.{AllByRecursion};
 ghost use Rattle.ballot_base.specs.Clones.{AreClones};
 ghost use Rattle.ballot_base.specs.Lists.{IsIncreasing};
-ghost use Rattle.tie_walk.specs.Steps.Choices.{tied_by};
-ghost use Rattle.sequential_winners.specs.Steps.Levels.{ties_by, end_by, AreFollowing, AreReached};
+ghost use Rattle.tie_walk.specs.Steps.Choices.{tied_by, HasSetsOf};
+ghost use Rattle.sequential_winners.specs.Steps.Levels.{ties_by, end_by, followers_by, AreFollowing, AreReached};
 
 use ballot_base::{CandSet, Clones};
 use std::alloc::{AllocError, Allocator};
 use std::collections::HashSet;
-use tie_walk::sequential::{Choices, Step, in_order};
+use tie_walk::sequential::{Choices, FoundSets, Step, in_order};
 
-/// A sequential rule on a profile, followed level by level: level `n` has the families that `n` choices make.
+/// A sequential rule on a profile, followed level by level: level `n` has the sets that `n` choices
+/// make, the ends that wait for their own level, and the sets that stay for good.
 #[derive(Drop)]
 pub(crate) struct Levels<'a, A: Allocator + Copy> {
     pub(crate) choices: Choices<'a, A>,
@@ -76,44 +77,66 @@ impl<A: Allocator + Copy + Drop> Levels<'_, A> {
         (ties, None)
     }
 
-    /// The families that follow those of level `size`.
+    /// Adds what follows a set: its end; or the set itself, if its end lies beyond all `total` choices; or the sets
+    /// that one choice makes.
+    fn follow(
+        &self,
+        found: &mut FoundSets<A>,
+        set: CandSet,
+        total: u8,
+    ) -> Result<(), AllocError>
+        requires { IsIncreasing 1 self.now.choices.profile.now.m set }
+        ensures { OnOk result (HasSetsOf (found.old.keys
+            ++ followers_by self.now.choices.rule self.now.choices.profile.now total set) found.new.keys) }
+    {
+        let Choices { profile, rule, .. } = &self.choices;
+        let (ties, end) = self.ties_and_end(set);
+        match end {
+            Some(end) if rule.choices(profile.m(), end.len()) <= total => {
+                found.insert(end)?;
+            }
+            Some(_) => {
+                found.insert(set)?;
+            }
+            None => rule.step().insert_each(found, set, ties)?,
+        }
+        Ok(())
+    }
+
+    /// The level after level `size`, of those for `total` choices.
     fn next_level(
         &self,
         alloc: A,
+        total: u8,
         size: u8,
         level: &[CandSet],
     ) -> Result<Vec<CandSet, A>, AllocError>
-        requires size { size < self.now.choices.profile.now.m }
-        requires sets { AllByRecursion (λ set. IsIncreasing 1 self.now.choices.profile.now.m set) level.now }
+        requires { AllByRecursion (λ set. IsIncreasing 1 self.now.choices.profile.now.m set) level.now }
         ensures { IfOk result (λ next. AreFollowing
-            self.now.choices.rule self.now.choices.profile.now size level.now next.items) }
+            self.now.choices.rule self.now.choices.profile.now total size level.now next.items) }
     {
         let Choices { profile, rule, .. } = &self.choices;
         let mut found = HashSet::new(alloc);
         for set in level {
-            let (ties, end) = self.ties_and_end(*set);
-            match end {
-                Some(end) if rule.choices(profile.m(), end.len()) <= size + 1 => {
-                    found.insert(end)?;
-                }
-                Some(_) => {
-                    found.insert(*set)?;
-                }
-                None => rule.step().insert_each(&mut found, *set, ties)?,
+            if rule.choices(profile.m(), set.len()) == size {
+                self.follow(&mut found, *set, total)?;
+            } else {
+                found.insert(*set)?;
             }
         }
         in_order(alloc, &found)
     }
 
-    /// Level `size`: the families that this many choices make.
-    pub(crate) fn reached_families(&self, alloc: A, size: u8) -> Result<Vec<CandSet, A>, AllocError>
-        requires { size ≤ self.now.choices.profile.now.m }
-        ensures { IfOk result (λ sets. AreReached self.now.choices.rule self.now.choices.profile.now size sets.items) }
+    /// The families that `total` choices make.
+    pub(crate) fn reached_families(&self, alloc: A, total: u8) -> Result<Vec<CandSet, A>, AllocError>
+        requires { total ≤ self.now.choices.profile.now.m }
+        ensures { IfOk result (λ sets.
+            AreReached self.now.choices.rule self.now.choices.profile.now total total sets.items) }
     {
         let start = self.choices.rule.step().start(self.choices.profile.m());
         let mut level = vec![in alloc; start]?;
-        for done in 0..size {
-            level = self.next_level(alloc, done, &level)?;
+        for done in 0..total {
+            level = self.next_level(alloc, total, done, &level)?;
         }
         Ok(level)
     }

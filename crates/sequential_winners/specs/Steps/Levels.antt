@@ -1,5 +1,5 @@
 -- The families that choices make, level by level.
-use Rattle.std.specs.Prelude.{◌≡◌, ℕ, nat_lt, nat_le, fold, Option, None, Some, ◌+◌, ◌-◌, ◌<◌, ◌≤◌, ◌⊎◌, Contains, true, ◌&&◌, ◌==◌, Bool, false, not, List, [], ◌∷◌, length, map, filter, slice_index_or, if◌then◌else◌}
+use Rattle.std.specs.Prelude.{◌≡◌, ℕ, zero, suc, nat_lt, nat_le, fold, Option, None, Some, ◌+◌, ◌-◌, ◌<◌, ◌≤◌, ◌⊎◌, Contains, true, ◌&&◌, ◌==◌, Bool, false, not, List, [], ◌∷◌, length, map, filter, slice_index_or, if◌then◌else◌}
 use Rattle.std.specs.List.{list_all, list_any, flat_map, range_with_len, zip, AllByRecursion}
 use Rattle.std.specs.List.Sorted.{IsStrictlySortedBy}
 use Rattle.std.specs.Cmp.Lexicographic.{slice_cmp}
@@ -69,16 +69,20 @@ picked Shrink m set = others m set
 abbrev pub chosen : Step → ℕ → List ℕ → ℕ
 chosen step m set = length (picked step m set)
 
--- what the level after level `size` has of a set: the set itself, or its end once it is reached, or the sets that one
--- choice makes
+-- what follows a set in the levels of `total` choices: the sets that one choice makes; or the end; or the set itself,
+-- for good, if its end lies beyond
 abbrev pub followed : Step → ℕ → ℕ → List ℕ → List ℕ → Option (List ℕ) → List (List ℕ)
-followed step m size set tied None = map (change step set) tied
-followed step m size set tied (Some last) = (if nat_le (chosen step m last) (size + 1) then last else set) ∷ []
+followed step m total set tied None = map (change step set) tied
+followed step m total set tied (Some last) = (if nat_le (chosen step m last) total then last else set) ∷ []
 
--- what follows a set of level `size`
-unfoldable pub family_changes : Step → List ℕ → ℕ → List Row → ℕ → List ℕ → List (List ℕ)
-family_changes step weights m rows size set =
-    followed step m size set (ties step weights m rows set) (end step weights m rows set)
+unfoldable pub followers : Step → List ℕ → ℕ → List Row → ℕ → List ℕ → List (List ℕ)
+followers step weights m rows total set =
+    followed step m total set (ties step weights m rows set) (end step weights m rows set)
+
+-- what the level after level `size` has of a set: what follows it, or the set if other than `size` choices lead to it
+abbrev pub family_changes : Step → List ℕ → ℕ → List Row → ℕ → ℕ → List ℕ → List (List ℕ)
+family_changes step weights m rows total size set =
+    if chosen step m set == size then followers step weights m rows total set else set ∷ []
 
 -- the end, or the set itself if there is none
 abbrev pub end_or : List ℕ → Option (List ℕ) → List ℕ
@@ -90,9 +94,9 @@ abbrev pub other_end : Step → List ℕ → ℕ → List Row → ℕ → List �
 other_end step weights m rows k set = if length set == k then set else end_or set (end step weights m rows set)
 
 -- the list has exactly the families that follow those of another, in lexicographic order, each once
-abbrev pub IsNextFamilies : Step → List ℕ → ℕ → List Row → ℕ → List (List ℕ) → List (List ℕ) → Type 0
-IsNextFamilies step weights m rows size level next =
-    IsInOrder (flat_map (family_changes step weights m rows size) level) next
+abbrev pub IsNextFamilies : Step → List ℕ → ℕ → List Row → ℕ → ℕ → List (List ℕ) → List (List ℕ) → Type 0
+IsNextFamilies step weights m rows total size level next =
+    IsInOrder (flat_map (family_changes step weights m rows total size) level) next
 
 -- at most as many of each class of clones
 abbrev pub IsBelow : List Row → List ℕ → List ℕ → Type 0
@@ -115,23 +119,29 @@ module _ (step : Step) (weights : List ℕ) (m : ℕ) (rows : List Row) where
   abbrev pub IsLasting : ℕ → List ℕ → Type 0
   IsLasting size set = (last : List ℕ) × (end step weights m rows set ≡ Some last) × (size < chosen step m last)
 
-  -- to a family of a level led `size` choices; or fewer did, and it lasts
-  abbrev pub IsPlaced : ℕ → List ℕ → Type 0
-  IsPlaced size set = (chosen step m set ≡ size) ⊎ ((chosen step m set < size) × IsLasting size set)
+  -- as many of each class were picked
+  abbrev pub IsAlike : List ℕ → List ℕ → Type 0
+  IsAlike set made = IsAhead step m rows set made × IsAhead step m rows made set
 
-  -- between the set and its end, by numbers of each class
-  pub record IsOf (set made : List ℕ) : Type 0 where
-    pub ahead : IsAhead step m rows set made
-    pub until : (last : List ℕ) → end step weights m rows set ≡ Some last → IsAhead step m rows made last
+  -- some list of `n` choices leads from the set to one like `made`
+  abbrev pub LeadsTo : List ℕ → ℕ → List ℕ → Type 0
+  LeadsTo made zero set = IsAlike set made
+  LeadsTo made (suc n) set =
+      (c : ℕ) × (is_choice step weights m rows set c ≡ true) × LeadsTo made n (change step set c)
 
-  -- the sets that `size` choices make are those of their size between some family and its end
-  pub record IsFamilyLevel (size : ℕ) (sets : List (List ℕ)) : Type 0 where
+  -- to a set of a level led at least `size` choices; or fewer, and its end lies beyond all `total`
+  abbrev pub IsPlaced : ℕ → ℕ → List ℕ → Type 0
+  IsPlaced total size set = (chosen step m set ≤ total) × ((size ≤ chosen step m set) ⊎ IsLasting total set)
+
+  -- the sets that `total` choices make are those that the choices still to be made lead to from some set
+  pub record IsFamilyLevel (total size : ℕ) (sets : List (List ℕ)) : Type 0 where
     pub order : IsStrictlySortedBy (slice_cmp nat_cmp) sets
     pub candidates : (set : List ℕ) → Contains sets set → IsIncreasing 1 m set
-    pub placed : (set : List ℕ) → Contains sets set → IsPlaced size set
-    pub reached : (made : List ℕ) → IsReachedBy size made → (set : List ℕ) × Contains sets set × IsOf set made
-    pub made : (made set : List ℕ) → IsIncreasing 1 m made → chosen step m made ≡ size → Contains sets set
-        → IsOf set made → IsReachedBy size made
+    pub placed : (set : List ℕ) → Contains sets set → IsPlaced total size set
+    pub reached : (made : List ℕ) → IsReachedBy total made
+        → (set : List ℕ) × Contains sets set × LeadsTo made (total - chosen step m set) set
+    pub made : (made set : List ℕ) → IsIncreasing 1 m made → Contains sets set
+        → LeadsTo made (total - chosen step m set) set → IsReachedBy total made
 
 -- Families, each as the least and the most members that its committees have of each class. Those of k are the
 -- committees that some sequence of choices makes. If each has a least set of k members, these are in order.
@@ -154,12 +164,16 @@ ties_by rule e set = ties (step_of rule) (hit_weights rule e.m) e.m e.rows set
 abbrev pub end_by : SeqRule → Election → List ℕ → Option (List ℕ)
 end_by rule e set = end (step_of rule) (hit_weights rule e.m) e.m e.rows set
 
+abbrev pub followers_by : SeqRule → Election → ℕ → List ℕ → List (List ℕ)
+followers_by rule e total set = followers (step_of rule) (hit_weights rule e.m) e.m e.rows total set
+
 abbrev pub other_end_by : SeqRule → Election → ℕ → List ℕ → List ℕ
 other_end_by rule e k set = other_end (step_of rule) (hit_weights rule e.m) e.m e.rows k set
 
 -- `IsNextFamilies`, and `IsFamilyLevel`
-abbrev pub AreFollowing : SeqRule → Election → ℕ → List (List ℕ) → List (List ℕ) → Type 0
-AreFollowing rule e size level next = IsNextFamilies (step_of rule) (hit_weights rule e.m) e.m e.rows size level next
+abbrev pub AreFollowing : SeqRule → Election → ℕ → ℕ → List (List ℕ) → List (List ℕ) → Type 0
+AreFollowing rule e total size level next =
+    IsNextFamilies (step_of rule) (hit_weights rule e.m) e.m e.rows total size level next
 
-abbrev pub AreReached : SeqRule → Election → ℕ → List (List ℕ) → Type 0
-AreReached rule e size sets = IsFamilyLevel (step_of rule) (hit_weights rule e.m) e.m e.rows size sets
+abbrev pub AreReached : SeqRule → Election → ℕ → ℕ → List (List ℕ) → Type 0
+AreReached rule e total size sets = IsFamilyLevel (step_of rule) (hit_weights rule e.m) e.m e.rows total size sets

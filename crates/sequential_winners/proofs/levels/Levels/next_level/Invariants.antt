@@ -10,4 +10,4 @@ abbrev pub invariant-loop-set : goal.invariant-loop-set
 invariant-loop-set g l =
     let e = l.self.choices.profile.now in
     let rule = l.self.choices.rule in
-    HasSetsOf (flat_map (family_changes (step_of rule) (hit_weights rule e.m) e.m e.rows l.size) (take l.set-index l.level)) l.found.keys
+    HasSetsOf (flat_map (family_changes (step_of rule) (hit_weights rule e.m) e.m e.rows l.total l.size) (take l.set-index l.level)) l.found.keys

@@ -13,27 +13,27 @@ loop-done-init g c =
     let e = c.args.self.now.choices.profile.now in
     let rule = c.args.self.now.choices.rule in
     let made : c.start-start.result ≡ start (step_of rule) e.m = c.start-start.ensures ∙ ap (start c.step.result) c.m.ensures.value ∙ ap (λ s. start s e.m) c.step.ensures in
-    level-first (step_of rule) (hit_weights rule e.m) e.m e.rows c.m.ensures.valid.ballots (hit_weights-fall rule e.m) c.in_ok-level.level.items (c.in_ok-level.ensures.items ∙ ap (λ s. s ∷ []) made)
+    level-first (step_of rule) (hit_weights rule e.m) e.m e.rows c.m.ensures.valid.ballots (hit_weights-fall rule e.m) c.args.total c.in_ok-level.level.items (c.in_ok-level.ensures.items ∙ ap (λ s. s ∷ []) made)
 
-pub next_level-requires-clause-sets : goal.next_level-requires-clause-sets
-next_level-requires-clause-sets g c =
+pub next_level-requires : goal.next_level-requires
+next_level-requires g c =
     let e = c.args.self.now.choices.profile.now in
     let rule = c.args.self.now.choices.rule in
     subst (AllByRecursion (λ set. IsIncreasing 1 e.m set)) (sym c.deref.ensures.value)
-    (level-candidates (step_of rule) (hit_weights rule e.m) e.m e.rows c.loop-done.done c.loop-done.level.items c.loop-done.invariant)
+    (level-candidates (step_of rule) (hit_weights rule e.m) e.m e.rows c.args.total c.loop-done.done c.loop-done.level.items c.loop-done.invariant)
 
 pub loop-done-preserved : goal.loop-done-preserved
 loop-done-preserved g c =
     let e = c.args.self.now.choices.profile.now in
     let rule = c.args.self.now.choices.rule in
-    let fits : c.loop-done.done < e.m = omega (arith, c.requires) in
-    let made : IsNextFamilies (step_of rule) (hit_weights rule e.m) e.m e.rows c.loop-done.done c.loop-done.level.items c.in_ok-level-2.level.items =
-    subst (λ l. IsNextFamilies (step_of rule) (hit_weights rule e.m) e.m e.rows c.loop-done.done l c.in_ok-level-2.level.items) c.deref.ensures.value c.in_ok-level-2.ensures in
-    level-next (step_of rule) (hit_weights rule e.m) e.m e.rows c.m.ensures.valid.ballots (hit_weights-fall rule e.m) c.loop-done.done fits c.loop-done.level.items c.in_ok-level-2.level.items c.loop-done.invariant made
+    let more : c.loop-done.done < c.args.total = omega arith in
+    let made : IsNextFamilies (step_of rule) (hit_weights rule e.m) e.m e.rows c.args.total c.loop-done.done c.loop-done.level.items c.in_ok-level-2.level.items =
+    subst (λ l. IsNextFamilies (step_of rule) (hit_weights rule e.m) e.m e.rows c.args.total c.loop-done.done l c.in_ok-level-2.level.items) c.deref.ensures.value c.in_ok-level-2.ensures in
+    level-next (step_of rule) (hit_weights rule e.m) e.m e.rows c.m.ensures.valid.ballots (hit_weights-fall rule e.m) c.args.total c.loop-done.done more c.requires c.loop-done.level.items c.in_ok-level-2.level.items c.loop-done.invariant made
 
 pub returns : goal.returns
 returns g c =
     let e = c.args.self.now.choices.profile.now in
     let rule = c.args.self.now.choices.rule in
-    let all : c.loop-done.done ≡ c.args.size = omega arith in
-    subst (λ n. IsFamilyLevel (step_of rule) (hit_weights rule e.m) e.m e.rows n c.loop-done.level.items) all c.loop-done.invariant
+    let all : c.loop-done.done ≡ c.args.total = omega arith in
+    subst (λ n. IsFamilyLevel (step_of rule) (hit_weights rule e.m) e.m e.rows c.args.total n c.loop-done.level.items) all c.loop-done.invariant
