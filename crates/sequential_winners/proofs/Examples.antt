@@ -10,7 +10,7 @@ use Rattle.ballot_base.specs.Clones.{are_clones, clones_among}
 use Rattle.sequential_winners.specs.Clones.{clone_count, has_as_many, is_between}
 use Rattle.sequential_winners.specs.Families.{sequential_of, is_winner, some_winner}
 use Rattle.sequential_winners.specs.Steps.Families.{may_be_in}
-use Rattle.sequential_winners.specs.Steps.Levels.{is_first_open, is_settled, has_settled, ties, tied_worth, shares_no_voter, is_independent, end, chosen, followers, family_changes, other_end}
+use Rattle.sequential_winners.specs.Steps.Levels.{is_first_open, is_settled, has_settled, ties, tied_worth, next_hit, share_voter, is_near, beginners, shares_no_voter, is_independent, end, chosen, followers, family_changes, other_end}
 use Rattle.sequential_winners.specs.Steps.Tables.{completed}
 
 -- of the candidates 1 to 5, three voters approve 1 and 2, and one voter 3; nobody approves 4 and 5
@@ -69,6 +69,28 @@ independent = (refl, refl)
 ends : (end Grow (hit_weights SeqCc 4) 4 apart.rows [] ≡ Some (1 ∷ 2 ∷ [])) × (end Shrink (hit_weights SeqCc 4) 4 apart.rows (1 ∷ 2 ∷ 3 ∷ 4 ∷ []) ≡ Some (1 ∷ 2 ∷ [])) × (end Grow (hit_weights SeqCc 5) 5 few.rows [] ≡ None)
 unfolding few apart hit_weights end
 ends = (refl, refl, refl)
+
+-- four voters in a circle, each of whom approves two of four candidates
+around : Election
+around = election 4 ([] ∷ [] ∷ [] ∷ [] ∷ [] ∷ []) ((1 ∷ 2 ∷ [], 1) ∷ (2 ∷ 3 ∷ [], 1) ∷ (3 ∷ 4 ∷ [], 1) ∷ (1 ∷ 4 ∷ [], 1) ∷ [])
+
+-- a voter who is covered gives nothing more
+next_hits : (next_hit Grow (hit_weights SeqCc 4) [] (1 ∷ 2 ∷ [], 1) ≡ 1) × (next_hit Grow (hit_weights SeqCc 4) (1 ∷ []) (1 ∷ 2 ∷ [], 1) ≡ 0)
+unfolding hit_weights
+next_hits = (refl, refl)
+
+shared : (share_voter Grow (hit_weights SeqCc 4) around.rows [] 1 2 ≡ true) × (share_voter Grow (hit_weights SeqCc 4) around.rows [] 1 3 ≡ false) × (share_voter Grow (hit_weights SeqCc 4) around.rows (1 ∷ []) 1 2 ≡ false)
+unfolding around hit_weights
+shared = (refl, refl, refl)
+
+near_one : (is_near Grow (hit_weights SeqCc 4) around.rows [] 1 1 ≡ true) × (is_near Grow (hit_weights SeqCc 4) around.rows [] 1 4 ≡ true) × (is_near Grow (hit_weights SeqCc 4) around.rows [] 1 3 ≡ false)
+unfolding around hit_weights
+near_one = (refl, refl, refl)
+
+-- all four tie; 1, 2 or 4 is among the first choices wherever four are made, but 3 may be the only one
+begun : (beginners Grow (hit_weights SeqCc 4) 4 around.rows 4 [] ≡ 1 ∷ 2 ∷ 4 ∷ []) × (beginners Grow (hit_weights SeqCc 4) 4 around.rows 1 [] ≡ 1 ∷ 2 ∷ 3 ∷ 4 ∷ [])
+unfolding around hit_weights
+begun = (refl, refl)
 
 choices_made : (chosen Grow 4 (1 ∷ 2 ∷ 3 ∷ []) ≡ 3) × (chosen Shrink 4 (1 ∷ 2 ∷ 3 ∷ []) ≡ 1)
 choices_made = (refl, refl)

@@ -21,7 +21,7 @@ use Rattle.tie_walk.proofs.WinnersLemmas.{greatest-most, same_filter, winners-be
 use Rattle.sequential_winners.specs.Families.{Sequential, is_winner}
 use Rattle.sequential_winners.specs.Steps.Levels.{IsReachedBy}
 use Rattle.sequential_winners.proofs.Lists.{all-pass}
-use Rattle.sequential_winners.proofs.LevelLemmas.{reached-chosen}
+use Rattle.sequential_winners.proofs.Leads.{reached-chosen}
 use Rattle.sequential_winners.proofs.Picked.{chosen-open}
 use Rattle.sequential_winners.proofs.TiedClones.{no_better-joined, choice-from}
 use Rattle.sequential_winners.proofs.WinnerLemmas.{rule-size, reached-wins}

@@ -20,7 +20,8 @@ use Rattle.tie_walk.proofs.RowSums.{AreBallots}
 use Rattle.sequential_winners.specs.Clones.{has_as_many, is_between}
 use Rattle.sequential_winners.specs.Steps.Levels.{end, end_or, chosen, other_end, IsBelow, IsAhead, LeadsTo, IsPlaced, IsFamilyLevel, AreFamilies, AreReached, other_end_by}
 use Rattle.sequential_winners.proofs.Lists.{same_tests, count-others}
-use Rattle.sequential_winners.proofs.LevelLemmas.{Completes, span-leads, leads-within, level-candidates}
+use Rattle.sequential_winners.proofs.Leads.{span-leads, leads-within}
+use Rattle.sequential_winners.proofs.LevelLemmas.{Completes, level-candidates}
 use Rattle.sequential_winners.proofs.SpanLemmas.{IsSpan, end-span}
 use Rattle.sequential_winners.proofs.WinnerLemmas.{many-from, below-from, any-from, any-at, hit_weights-fall, rule-size, reached-wins, winner-reached}
 

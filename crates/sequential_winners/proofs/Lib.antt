@@ -16,3 +16,6 @@ pub mod TableLemmas
 pub mod TiedClones
 pub mod ValueLemmas
 pub mod WinnerLemmas
+pub mod Leads
+pub mod NearLemmas
+pub mod PhaseLemmas

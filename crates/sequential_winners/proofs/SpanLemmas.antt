@@ -30,7 +30,7 @@ use Rattle.sequential_winners.proofs.TiedClones.{no_better-joined, no-better-ahe
 
 -- ---- the set after all of some choices
 
-changed-all : (step : Step) (m first : ℕ) (set added : List ℕ) → IsIncreasing 1 m set → IsIncreasing first m added
+pub changed-all : (step : Step) (m first : ℕ) (set added : List ℕ) → IsIncreasing 1 m set → IsIncreasing first m added
     → ((c : ℕ) → has_member added c ≡ true → has_member (open_candidates step m set) c ≡ true)
     → IsIncreasing 1 m (fold (change step) set added) × ((p : ℕ → Bool) → count_by p (picked step m (fold (change step) set added)) ≡ count_by p (picked step m set) + count_by p added)
 changed-all step m first set [] up up' free = (up, λ p. omega arith)
@@ -52,13 +52,13 @@ module _ (step : Step) (weights : List ℕ) (m : ℕ) (rows : List Row) (set las
         → IsAhead step m rows (change step made c) last → is_choice step weights m rows made c ≡ true
 
 module _ (step : Step) (weights : List ℕ) (m : ℕ) (rows : List Row) (set : List ℕ) where
-  tied-is : (t : ℕ) → has_member (ties step weights m rows set) t ≡ true → is_choice step weights m rows set t ≡ true
+  pub tied-is : (t : ℕ) → has_member (ties step weights m rows set) t ≡ true → is_choice step weights m rows set t ≡ true
   tied-is t inside = grind (arith, common_steps, and_parts, has_member-filter)
 
-  tied-open : (t : ℕ) → has_member (ties step weights m rows set) t ≡ true → has_member (open_candidates step m set) t ≡ true
+  pub tied-open : (t : ℕ) → has_member (ties step weights m rows set) t ≡ true → has_member (open_candidates step m set) t ≡ true
   tied-open t inside = choice-open step weights m rows set t (tied-is t inside)
 
-  tied-increasing : IsIncreasing 1 m (ties step weights m rows set)
+  pub tied-increasing : IsIncreasing 1 m (ties step weights m rows set)
   tied-increasing =
       IsIncreasing-filter (λ c. is_choice step weights m rows set c && is_first_open step (clones_among m rows c) set c) 1 m (range_with_len 1 m) (IsIncreasing-range 1 m m (omega arith))
 
@@ -81,12 +81,12 @@ module _ (step : Step) (weights : List ℕ) (m : ℕ) (rows : List Row) (ballots
   last-count : (p : ℕ → Bool) → count_by p (picked step m last) ≡ count_by p (picked step m set) + count_by p all
   last-count = (tied-last step weights m rows set up).1
 
-  tied-class : (c : ℕ) → is_choice step weights m rows set c ≡ true → (t : ℕ) × (has_member all t ≡ true) × (are_clones rows c t ≡ true)
+  pub tied-class : (c : ℕ) → is_choice step weights m rows set c ≡ true → (t : ℕ) × (has_member all t ≡ true) × (are_clones rows c t ≡ true)
   tied-class c is = grind (arith, common_steps, first-tied, choice-parts, has_member-filter, and_from, has_member-range)
 
   module _ (made : List ℕ) (up' : IsIncreasing 1 m made) (ahead : IsAhead step m rows set made) (c : ℕ) (free : has_member (open_candidates step m made) c ≡ true) where
     -- nobody is better later than those who tie
-    at-most : (t : ℕ) → is_choice step weights m rows set t ≡ true → is_no_better step (worth step weights rows made c) (worth step weights rows set t) ≡ true
+    pub at-most : (t : ℕ) → is_choice step weights m rows set t ≡ true → is_no_better step (worth step weights rows made c) (worth step weights rows set t) ≡ true
     at-most t is =
         let d = open-moves step weights m rows made set c up' up ahead free in
         no_better-joined step (worth step weights rows made c) (worth step weights rows set d.0) (worth step weights rows set t)
@@ -120,9 +120,9 @@ module _ (step : Step) (weights : List ℕ) (m : ℕ) (rows : List Row) (ballots
                   )
               | inr other ↦ omega (arith, above x, last-count (are_clones rows x), fewer (are_clones rows x), ap bit other)
             ];
-            given = each-row m rows (λ (row : Row). hits row.0 all ≤ 1) (λ (row : Row). has_member row.0 t.0 ≡ true → 0 + count_by (has_member row.0) (without_member all t.0) ≤ count_by (has_member row.0) []) ballots (few-of all rows apart)
-                (λ row ballot whole few approved. omega (arith, few, hits-members m row.0 all ballot (tied-increasing step weights m rows set), fewer (has_member row.0), ap bit approved));
-          }),
+          })
+          (each-row m rows (λ (row : Row). hits row.0 all ≤ 1) (λ (row : Row). has_member row.0 t.0 ≡ true → 0 + count_by (has_member row.0) (without_member all t.0) ≤ count_by (has_member row.0) []) ballots (few-of all rows apart)
+                (λ row ballot whole few approved. omega (arith, few, hits-members m row.0 all ballot (tied-increasing step weights m rows set), fewer (has_member row.0), ap bit approved))),
         )
 
     -- of a class of which no more are picked at the end, a candidate is worse
@@ -154,8 +154,7 @@ module _ (step : Step) (weights : List ℕ) (m : ℕ) (rows : List Row) (ballots
             clones = clones-turned rows c u.0 u.2;
             free = free;
             within = within;
-            given = all-pass (λ (row : Row). has_member row.0 c ≡ true → 1 ≤ count_by (has_member row.0) (c ∷ [])) rows (λ row approved. omega (arith, count-cons (has_member row.0) c [], ap bit approved));
-          }) (positive u.0 (tied-is step weights m rows set u.0 u.1)))
+          }) (all-pass (λ (row : Row). has_member row.0 c ≡ true → 1 ≤ count_by (has_member row.0) (c ∷ [])) rows (λ row approved. omega (arith, count-cons (has_member row.0) c [], ap bit approved))) (positive u.0 (tied-is step weights m rows set u.0 u.1)))
           (no_better-joined step (worth step weights rows set u.0) (worth step weights rows set t) (worth step weights rows made c)
           (choice-best step weights m rows set t u.0 is (tied-open step weights m rows set u.0 u.1)) fine)
       | inr none ↦
@@ -168,7 +167,7 @@ module _ (step : Step) (weights : List ℕ) (m : ℕ) (rows : List Row) (ballots
     ]
 
   -- the ties bring something
-  tied-positive : 0 < tied_worth step weights m rows set → (t : ℕ) → is_choice step weights m rows set t ≡ true → 0 < worth step weights rows set t
+  pub tied-positive : 0 < tied_worth step weights m rows set → (t : ℕ) → is_choice step weights m rows set t ≡ true → 0 < worth step weights rows set t
   tied-positive some t is = by step some (and_parts (has_member (open_candidates step m set) t) (list_all (λ d. is_no_better step (worth step weights rows set d) (worth step weights rows set t)) (open_candidates step m set)) is)
     where
       by : (s : Step) → 0 < tied_worth s weights m rows set

@@ -18,7 +18,7 @@ use Rattle.tie_walk.specs.declared.sequential.Step.TheVariants.{Grow, Shrink}
 use Rattle.tie_walk.proofs.StepLemmas.{filter-twice, has_member-range}
 use Rattle.tie_walk.proofs.WinnersLemmas.{greatest, bounds-greatest, same_filter}
 use Rattle.ballot_base.specs.Clones.{are_clones, clones_among}
-use Rattle.sequential_winners.specs.Steps.Levels.{is_first_open, is_settled, has_settled, ties, shares_no_voter, tied_worth, end, chosen, followed, followers}
+use Rattle.sequential_winners.specs.Steps.Levels.{is_first_open, is_settled, has_settled, ties, shares_no_voter, tied_worth, beginners, end, chosen, followed, followers}
 use Rattle.sequential_winners.proofs.TiedClones.{choice-open, choice-best, choice-from}
 use Rattle.sequential_winners.proofs.Lists.{all-at, all-from, same_tests, open-is, open-from}
 use Rattle.ballot_base.specs.Clones.{AreClones}
@@ -157,11 +157,11 @@ end-found step weights m rows set best is = rw (settled-is step weights m rows s
 -- ---- what follows a set, as the code finds it
 
 pub followers-none : (step : Step) (weights : List ℕ) (m : ℕ) (rows : List Row) (total : ℕ) (set : List ℕ) → end step weights m rows set ≡ None
-    → map (change step set) (ties step weights m rows set) ≡ followers step weights m rows total set
+    → map (change step set) (beginners step weights m rows (total - chosen step m set) set) ≡ followers step weights m rows total set
 unfolding followers
-followers-none step weights m rows total set is = ap (followed step m total set (ties step weights m rows set)) (sym is)
+followers-none step weights m rows total set is = ap (followed step m total set (beginners step weights m rows (total - chosen step m set) set)) (sym is)
 
 pub followers-last : (step : Step) (weights : List ℕ) (m : ℕ) (rows : List Row) (total : ℕ) (set last next : List ℕ) → end step weights m rows set ≡ Some last
     → next ≡ cond (nat_le (chosen step m last) total) last set → next ∷ [] ≡ followers step weights m rows total set
 unfolding followers
-followers-last step weights m rows total set last next is next-is = ap (λ s. s ∷ []) next-is ∙ ap (followed step m total set (ties step weights m rows set)) (sym is)
+followers-last step weights m rows total set last next is next-is = ap (λ s. s ∷ []) next-is ∙ ap (followed step m total set (beginners step weights m rows (total - chosen step m set) set)) (sym is)

@@ -88,8 +88,8 @@ module _ (step : Step) (weights : List ℕ) (m : ℕ) (rows : List Row) where
           clones = cd;
           free = free;
           within = λ e. omega (arith, ahead e);
-          given = all-pass (λ (row : Row). has_member row.0 d ≡ true → 0 ≤ 0) rows (λ row approved. omega arith);
         })
+        (all-pass (λ (row : Row). has_member row.0 d ≡ true → 0 ≤ 0) rows (λ row approved. omega arith))
 
     -- a clone of a tied candidate ties, at each set with as many of each class
     pub choice-moves : (set other : List ℕ) (c d : ℕ) → IsIncreasing 1 m set → IsIncreasing 1 m other → IsAhead step m rows set other → IsAhead step m rows other set

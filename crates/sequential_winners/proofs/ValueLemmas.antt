@@ -19,7 +19,7 @@ use Rattle.sequential_winners.specs.Families.{Sequential, sequential_of, is_winn
 use Rattle.sequential_winners.specs.Steps.Families.{KeepsFamilies, may_be_in}
 use Rattle.sequential_winners.specs.Steps.Levels.{AreFamilies}
 use Rattle.sequential_winners.proofs.CompletionLemmas.{joined-increasing, may-is}
-use Rattle.sequential_winners.proofs.LevelLemmas.{reached-chosen}
+use Rattle.sequential_winners.proofs.Leads.{reached-chosen}
 use Rattle.sequential_winners.proofs.Lists.{same_tests}
 use Rattle.sequential_winners.proofs.PairLemmas.{pairs-first}
 use Rattle.sequential_winners.proofs.WinnerLemmas.{any-from, any-at, rule-size, winner-reached}

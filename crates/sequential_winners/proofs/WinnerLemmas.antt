@@ -1,6 +1,6 @@
 -- The committees of the families of the last level are the winners of a sequential rule.
 use Rattle.std.proofs.lemmas.Grind.{common_steps}
-use Rattle.std.proofs.Common.{◌≡◌, ℕ, zero, suc, ◌+◌, ◌-◌, ◌*◌, ◌/◌, ◌≤◌, ◌∙◌, Bool, true, Some, List, refl, sym, arith, inl, inr, length, get_or, Contains, add-one}
+use Rattle.std.proofs.Common.{◌≡◌, ℕ, zero, suc, ◌+◌, ◌-◌, ◌*◌, ◌/◌, ◌<◌, ◌≤◌, ◌∙◌, Bool, true, Some, List, refl, sym, ap, arith, inl, inr, length, get_or, Contains, add-one}
 use Rattle.std.proofs.Math.Nat.{mul-le-mul, mul-div_cancel'}
 use Rattle.std.specs.Prelude.{nat_le}
 use Rattle.std.specs.List.{list_any, range_with_len}
@@ -11,7 +11,7 @@ use Rattle.ballot_base.specs.Lists.{IsIncreasing}
 use Rattle.ballot_base.specs.CommonMultiple.{common_multiple}
 use Rattle.ballot_base.proofs.Committees.{length-increasing}
 use Rattle.ballot_base.specs.Ballots.{Row, Election}
-use Rattle.tie_walk.specs.Sequences.{hit_weight, hit_weights, is_sequential_winner}
+use Rattle.tie_walk.specs.Sequences.{hit_weight, hit_weights, weight, is_sequential_winner}
 use Rattle.tie_walk.specs.Steps.Choices.{step_of, choices_of, change, is_choice, start}
 use Rattle.tie_walk.specs.declared.sequential.SeqRule.{SeqRule}
 use Rattle.tie_walk.specs.declared.sequential.SeqRule.TheVariants.{SeqPav, SeqCc, RevSeqPav}
@@ -21,9 +21,9 @@ use Rattle.tie_walk.proofs.LevelLemmas.{in_bounds, followed-candidates}
 use Rattle.tie_walk.proofs.SequenceLemmas.{grown_set-made, left_set-made}
 use Rattle.tie_walk.proofs.StepLemmas.{has_member-range}
 use Rattle.ballot_base.specs.Clones.{are_clones}
-use Rattle.ballot_base.proofs.LeastMultiples.{common_multiple_divides}
+use Rattle.ballot_base.proofs.LeastMultiples.{common_multiple_some, common_multiple_divides}
 use Rattle.sequential_winners.specs.Clones.{clone_count, has_as_many}
-use Rattle.sequential_winners.specs.Steps.Levels.{chosen, end_by, IsBelow, IsFalling, IsReachedBy}
+use Rattle.sequential_winners.specs.Steps.Levels.{chosen, end_by, AllCount, IsBelow, IsFalling, IsReachedBy}
 use Rattle.sequential_winners.proofs.CloneLemmas.{clones-sameness}
 use Rattle.sequential_winners.proofs.Lists.{all-at, all-from}
 use Rattle.sequential_winners.proofs.Numbers.{some-passes, count-class}
@@ -48,6 +48,24 @@ pub hit_weights-fall : (rule : SeqRule) (m : ℕ) → IsFalling (hit_weights rul
 hit_weights-fall rule m zero low = absurd (omega (arith, low))
 hit_weights-fall rule m (suc j) low =
     grind (arith, common_steps, get_or, add-one, cases_lt, hit_weights-at, hit-falls, get_or_past, hit_weights-length)
+
+-- under reverse sequential approval voting each hit counts
+pub hit_weights-count : (rule : SeqRule) (m : ℕ) → AllCount (step_of rule) m (hit_weights rule m)
+hit_weights-count SeqPav m = tt
+hit_weights-count SeqCc m = tt
+hit_weights-count RevSeqPav m = each
+  where
+    some-share : (n d : ℕ) → d * (n / d) ≡ n → 0 < n → 0 < n / d
+    some-share n d whole some = elim (cases_lt 0 (n / d)) [
+      | inl is ↦ is
+      | inr fails ↦ let e : n / d ≡ 0 = omega (arith, fails) in let f : d * 0 ≡ 0 = grind arith in absurd (omega (arith, some, sym whole ∙ ap (λ q. d * q) e ∙ f))
+    ]
+
+    each : (j : ℕ) → 1 ≤ j → j ≤ m → 0 < weight (hit_weights RevSeqPav m) j
+    each zero low high = absurd (omega (arith, low))
+    each (suc j) low high =
+        let at : weight (hit_weights RevSeqPav m) (suc j) ≡ common_multiple m / (j + 1) = hit_weights-at RevSeqPav m j (omega (arith, high)) in
+        omega (arith, at, some-share (common_multiple m) (j + 1) (mul-div_cancel' (j + 1) (common_multiple_divides m (j + 1) (omega arith) (omega (arith, high)))) (common_multiple_some m))
 
 -- ---- as many of each class, as a test
 

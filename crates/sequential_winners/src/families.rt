@@ -68,7 +68,7 @@ impl<'a, A: Allocator + Copy + Drop> Families<'a, A> {
             let end = if set.len() == k {
                 None
             } else {
-                levels.ties_and_end(*set).1
+                levels.ties_and_end(*set).2
             };
             ends.push(end.unwrap_or(*set))?;
         }

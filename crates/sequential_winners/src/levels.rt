@@ -1,4 +1,4 @@
-//! The families that the choices of a sequential rule make, level by level. Three facts keep the levels short.
+//! The families that the choices of a sequential rule make, level by level. Four facts keep the levels short.
 //!
 //! - **Clones tie.** Whether a set is reached, what it gains and what it loses depend only on its number of members of
 //!   each class of clones (`proofs/RowLemmas.antt`, `TiedClones.antt`). So of tied clones only the first is followed.
@@ -8,17 +8,23 @@
 //! - **Ties may be independent.** If no voter approves two of the tied candidates, each of them still ties after others
 //!   were chosen, and no other candidate does, not even a clone (`proofs/SpanLemmas.antt`). They are chosen in any
 //!   order.
+//! - **Ties may be near or far.** Who is chosen among tied candidates takes out of the tie exactly those with whom it
+//!   shares a voter whose next hit still adds something; the others keep their gain. If at least as many choices are
+//!   still to be made as candidates tie, the first of them or somebody near it, with such a voter in common, is chosen
+//!   before the best gain falls, and may be chosen at once (`proofs/PhaseLemmas.antt`). So only these are followed.
 //!
-//! In the last two cases all choices lead to one set, the `end`: all candidates, or the set with all tied ones. Only the
+//! In the second and third case all choices lead to one set, the `end`: all candidates, or the set with all tied ones. Only the
 //! end is followed, once as many choices were made. If it lies beyond the committee's size, the set stays for good, and
 //! stands for all sets between the two. `proofs/LevelLemmas.antt` shows, by induction over levels, that the choices
 //! still to be made lead from the sets of a level to exactly the committees that some sequence of choices makes.
-ghost use Rattle.std.specs.Prelude.{◌≡◌, ◌≤◌, ◌++◌, None, IfOk, OnOk};
+ghost use Rattle.std.specs.Prelude.{◌≡◌, ◌≤◌, ◌++◌, ◌&&◌, nat_lt, true, None, IfOk, OnOk};
 ghost use Rattle.std.specs.List.{AllByRecursion};
 ghost use Rattle.ballot_base.specs.Clones.{AreClones};
+ghost use Rattle.ballot_base.specs.CandSet.{has_member};
+ghost use Rattle.ballot_base.specs.Limits.{most_candidates};
 ghost use Rattle.ballot_base.specs.Lists.{IsIncreasing};
-ghost use Rattle.tie_walk.specs.Steps.Choices.{tied_by, HasSetsOf};
-ghost use Rattle.sequential_winners.specs.Steps.Levels.{ties_by, end_by, followers_by, AreFollowing, AreReached};
+ghost use Rattle.tie_walk.specs.Steps.Choices.{best_worth, tied_by, HasSetsOf};
+ghost use Rattle.sequential_winners.specs.Steps.Levels.{ties_by, next_hit_by, near_by, beginners_by, end_by, followers_by, AreFollowing, AreReached};
 
 use ballot_base::{CandSet, Clones};
 use std::alloc::{AllocError, Allocator};
@@ -49,17 +55,18 @@ impl<A: Allocator + Copy + Drop> Levels<'_, A> {
         firsts
     }
 
-    /// The set that all choices lead to if they may be made in any order. If there is no such set, the candidates who
-    /// may be chosen next are returned as well: of clones who tie, only the first.
-    pub(crate) fn ties_and_end(&self, set: CandSet) -> (CandSet, Option<CandSet>)
-        ensures ties { result.1 ≡ None → result.0 ≡ ties_by self.now.choices.rule self.now.choices.profile.now set }
-        ensures end { result.1 ≡ end_by self.now.choices.rule self.now.choices.profile.now set }
+    /// The best worth, the tied candidates (of clones only the first), and the set that all choices lead to if they may
+    /// be made in any order. If nobody adds anything, the tied candidates are all who may be chosen.
+    pub(crate) fn ties_and_end(&self, set: CandSet) -> (u128, CandSet, Option<CandSet>)
+        ensures best { result.0 ≡ best_worth self.now.choices.rule self.now.choices.profile.now set }
+        ensures ties { result.2 ≡ None → result.1 ≡ ties_by self.now.choices.rule self.now.choices.profile.now set }
+        ensures end { result.2 ≡ end_by self.now.choices.rule self.now.choices.profile.now set }
     {
         let profile = self.choices.profile;
         let step = self.choices.rule.step();
         let (best, tied) = self.choices.tied(set);
         if matches!(step, Step::Grow) && best == 0 {
-            return (tied, Some(CandSet::all(profile.m())));
+            return (best, tied, Some(CandSet::all(profile.m())));
         }
         let ties = self.firsts(set, tied);
         if best > 0
@@ -72,9 +79,53 @@ impl<A: Allocator + Copy + Drop> Levels<'_, A> {
                 Step::Grow => set.union(ties),
                 Step::Shrink => set.minus(ties),
             };
-            return (ties, Some(end));
+            return (best, ties, Some(end));
         }
-        (ties, None)
+        (best, ties, None)
+    }
+
+    /// Whether a voter approves a candidate, and the voter's next hit adds something to the set, or the last one takes
+    /// something from it.
+    fn gives(&self, ballot: CandSet, set: CandSet, c: u8) -> bool
+        ensures { result ≡ (nat_lt 0 (next_hit_by self.now.choices.rule self.now.choices.profile.now set ballot)
+            && has_member ballot c) }
+    {
+        let Choices { profile, rule, .. } = &self.choices;
+        let weights = &self.choices.weights[..usize::from(profile.m())];
+        let next_hit = rule.step().weight(weights, ballot.common(set).len());
+        next_hit > 0 && ballot.has(c)
+    }
+
+    /// The first of the tied candidates, and those who share a voter with it whose next hit adds something.
+    fn near(&self, set: CandSet, ties: CandSet, first: u8) -> CandSet
+        requires ties { IsIncreasing 1 most_candidates ties }
+        requires first { has_member ties first ≡ true }
+        ensures { result ≡ near_by self.now.choices.rule self.now.choices.profile.now set first ties }
+    {
+        let mut near = CandSet::empty().with(first);
+        for (ballot, _voters) in self.choices.profile.ballots() {
+            if self.gives(ballot, set, first) {
+                near = near.union(ballot.common(ties));
+            }
+        }
+        near
+    }
+
+    /// The candidates who are followed from a set, where `left` choices are still to be made. If these are no fewer
+    /// than the tied candidates, the first one or somebody near is chosen before the best worth changes; so only these
+    /// are followed.
+    fn beginners(&self, set: CandSet, best: u128, ties: CandSet, left: u8) -> CandSet
+        requires best { best ≡ best_worth self.now.choices.rule self.now.choices.profile.now set }
+        requires ties { ties ≡ ties_by self.now.choices.rule self.now.choices.profile.now set }
+        ensures { result ≡ beginners_by self.now.choices.rule self.now.choices.profile.now left set }
+    {
+        if best == 0 || ties.len() > left {
+            return ties;
+        }
+        match ties.split_first() {
+            Some((first, _)) => self.near(set, ties, first),
+            None => ties,
+        }
     }
 
     /// Adds what follows a set: its end; or the set itself, if its end lies beyond all `total` choices; or the sets
@@ -90,7 +141,7 @@ impl<A: Allocator + Copy + Drop> Levels<'_, A> {
             ++ followers_by self.now.choices.rule self.now.choices.profile.now total set) found.new.keys) }
     {
         let Choices { profile, rule, .. } = &self.choices;
-        let (ties, end) = self.ties_and_end(set);
+        let (best, ties, end) = self.ties_and_end(set);
         match end {
             Some(end) if rule.choices(profile.m(), end.len()) <= total => {
                 found.insert(end)?;
@@ -98,7 +149,11 @@ impl<A: Allocator + Copy + Drop> Levels<'_, A> {
             Some(_) => {
                 found.insert(set)?;
             }
-            None => rule.step().insert_each(found, set, ties)?,
+            None => {
+                let left = total.saturating_sub(rule.choices(profile.m(), set.len()));
+                let begin = self.beginners(set, best, ties, left);
+                rule.step().insert_each(found, set, begin)?;
+            }
         }
         Ok(())
     }

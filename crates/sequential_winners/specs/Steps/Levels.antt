@@ -1,5 +1,5 @@
 -- The families that choices make, level by level.
-use Rattle.std.specs.Prelude.{◌≡◌, ℕ, zero, suc, nat_lt, nat_le, fold, Option, None, Some, ◌+◌, ◌-◌, ◌<◌, ◌≤◌, ◌⊎◌, Contains, true, ◌&&◌, ◌==◌, Bool, false, not, List, [], ◌∷◌, length, map, filter, slice_index_or, if◌then◌else◌}
+use Rattle.std.specs.Prelude.{◌≡◌, ℕ, zero, suc, nat_lt, nat_le, fold, Option, None, Some, ◌+◌, ◌-◌, ◌<◌, ◌≤◌, ◌⊎◌, ⊤, Contains, true, ◌&&◌, ◌==◌, ◌||◌, Bool, false, not, List, [], ◌∷◌, length, map, filter, slice_index_or, if◌then◌else◌}
 use Rattle.std.specs.List.{list_all, list_any, flat_map, range_with_len, zip, AllByRecursion}
 use Rattle.std.specs.List.Sorted.{IsStrictlySortedBy}
 use Rattle.std.specs.Cmp.Lexicographic.{slice_cmp}
@@ -8,7 +8,7 @@ use Rattle.ballot_base.specs.Lists.{IsIncreasing}
 use Rattle.ballot_base.specs.CandSet.{has_member}
 use Rattle.ballot_base.specs.Ballots.{Row, Election, hits}
 use Rattle.tie_walk.specs.Sequences.{hit_weights, weight, gain, others, is_sequential_winner}
-use Rattle.tie_walk.specs.Steps.Choices.{step_of, may_choose, change, worth, better, worst, open_candidates, is_choice, start, IsReached, IsInOrder}
+use Rattle.tie_walk.specs.Steps.Choices.{step_of, hits_of, may_choose, change, worth, better, worst, open_candidates, is_choice, start, IsReached, IsInOrder}
 use Rattle.tie_walk.specs.declared.sequential.SeqRule.{SeqRule}
 use Rattle.tie_walk.specs.declared.sequential.Step.{Step}
 use Rattle.tie_walk.specs.declared.sequential.Step.TheVariants.{Grow, Shrink}
@@ -35,6 +35,16 @@ abbrev pub ties : Step → List ℕ → ℕ → List Row → List ℕ → List �
 ties step weights m rows set =
     filter (λ c. is_choice step weights m rows set c && is_first_open step (clones_among m rows c) set c)
     (range_with_len 1 m)
+
+-- what the next hit of a voter adds to the set, or what the last one takes from it
+abbrev pub next_hit : Step → List ℕ → List ℕ → Row → ℕ
+next_hit step weights set row = weight weights (hits_of step (hits row.0 set))
+
+-- whether some voter whose next hit adds something approves both candidates
+abbrev pub share_voter : Step → List ℕ → List Row → List ℕ → ℕ → ℕ → Bool
+share_voter step weights rows set c d =
+    list_any (λ (row : Row). nat_lt 0 (next_hit step weights set row) && (has_member row.0 c && has_member row.0 d))
+    rows
 
 -- whether no voter approves two of the candidates
 abbrev pub shares_no_voter : List Row → List ℕ → Bool
@@ -69,15 +79,29 @@ picked Shrink m set = others m set
 abbrev pub chosen : Step → ℕ → List ℕ → ℕ
 chosen step m set = length (picked step m set)
 
+-- whether the candidate is the other one, or shares with it a voter whose next hit adds something
+abbrev pub is_near : Step → List ℕ → List Row → List ℕ → ℕ → ℕ → Bool
+is_near step weights rows set other c = (c == other) || share_voter step weights rows set other c
+
+-- The candidates who are followed, where `left` choices are still to be made. If these are no fewer than the tied
+-- candidates, the first of them or somebody near is chosen before the best worth changes, and may be chosen at once.
+abbrev pub beginners : Step → List ℕ → ℕ → List Row → ℕ → List ℕ → List ℕ
+beginners step weights m rows left set =
+    let tied = ties step weights m rows set in
+    if nat_lt 0 (tied_worth step weights m rows set) && nat_le (length tied) left
+    then filter (is_near step weights rows set (slice_index_or tied 0 0)) tied
+    else tied
+
 -- what follows a set in the levels of `total` choices: the sets that one choice makes; or the end; or the set itself,
 -- for good, if its end lies beyond
 abbrev pub followed : Step → ℕ → ℕ → List ℕ → List ℕ → Option (List ℕ) → List (List ℕ)
-followed step m total set tied None = map (change step set) tied
-followed step m total set tied (Some last) = (if nat_le (chosen step m last) total then last else set) ∷ []
+followed step m total set begin None = map (change step set) begin
+followed step m total set begin (Some last) = (if nat_le (chosen step m last) total then last else set) ∷ []
 
 unfoldable pub followers : Step → List ℕ → ℕ → List Row → ℕ → List ℕ → List (List ℕ)
 followers step weights m rows total set =
-    followed step m total set (ties step weights m rows set) (end step weights m rows set)
+    followed step m total set (beginners step weights m rows (total - chosen step m set) set)
+    (end step weights m rows set)
 
 -- what the level after level `size` has of a set: what follows it, or the set if other than `size` choices lead to it
 abbrev pub family_changes : Step → List ℕ → ℕ → List Row → ℕ → ℕ → List ℕ → List (List ℕ)
@@ -109,6 +133,11 @@ IsAhead step m rows set other = IsBelow rows (picked step m set) (picked step m 
 -- after a hit that brings something, the next one brings less, and after another one it brings nothing
 abbrev pub IsFalling : List ℕ → Type 0
 IsFalling weights = (j : ℕ) → 1 ≤ j → weight weights (j + 1) ≤ weight weights j - 1
+
+-- where a set shrinks, each hit takes something
+abbrev pub AllCount : Step → ℕ → List ℕ → Type 0
+AllCount Grow m weights = ⊤
+AllCount Shrink m weights = (j : ℕ) → 1 ≤ j → j ≤ m → 0 < weight weights j
 
 module _ (step : Step) (weights : List ℕ) (m : ℕ) (rows : List Row) where
   -- some list of this many choices makes the set
@@ -160,6 +189,18 @@ pub record AreFamilies (rule : SeqRule) (e : Election) (k : ℕ) (leasts mosts :
 
 abbrev pub ties_by : SeqRule → Election → List ℕ → List ℕ
 ties_by rule e set = ties (step_of rule) (hit_weights rule e.m) e.m e.rows set
+
+-- `next_hit` of a ballot
+abbrev pub next_hit_by : SeqRule → Election → List ℕ → List ℕ → ℕ
+next_hit_by rule e set ballot = weight (hit_weights rule e.m) (hits_of (step_of rule) (hits ballot set))
+
+-- those of the candidates who are near another one
+abbrev pub near_by : SeqRule → Election → List ℕ → ℕ → List ℕ → List ℕ
+near_by rule e set other candidates =
+    filter (is_near (step_of rule) (hit_weights rule e.m) e.rows set other) candidates
+
+abbrev pub beginners_by : SeqRule → Election → ℕ → List ℕ → List ℕ
+beginners_by rule e left set = beginners (step_of rule) (hit_weights rule e.m) e.m e.rows left set
 
 abbrev pub end_by : SeqRule → Election → List ℕ → Option (List ℕ)
 end_by rule e set = end (step_of rule) (hit_weights rule e.m) e.m e.rows set

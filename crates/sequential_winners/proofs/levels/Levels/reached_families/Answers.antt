@@ -5,7 +5,7 @@ use Rattle.tie_walk.specs.Sequences.{hit_weights}
 use Rattle.tie_walk.specs.Steps.Choices.{step_of, start}
 use Rattle.sequential_winners.specs.Steps.Levels.{IsFamilyLevel, IsNextFamilies}
 use Rattle.sequential_winners.proofs.LevelLemmas.{level-next, level-first, level-candidates}
-use Rattle.sequential_winners.proofs.WinnerLemmas.{hit_weights-fall}
+use Rattle.sequential_winners.proofs.WinnerLemmas.{hit_weights-fall, hit_weights-count}
 use Rattle.sequential_winners.proofs.levels.Levels.reached_families.Goals as goal
 
 pub loop-done-init : goal.loop-done-init
@@ -13,7 +13,7 @@ loop-done-init g c =
     let e = c.args.self.now.choices.profile.now in
     let rule = c.args.self.now.choices.rule in
     let made : c.start-start.result ≡ start (step_of rule) e.m = c.start-start.ensures ∙ ap (start c.step.result) c.m.ensures.value ∙ ap (λ s. start s e.m) c.step.ensures in
-    level-first (step_of rule) (hit_weights rule e.m) e.m e.rows c.m.ensures.valid.ballots (hit_weights-fall rule e.m) c.args.total c.in_ok-level.level.items (c.in_ok-level.ensures.items ∙ ap (λ s. s ∷ []) made)
+    level-first (step_of rule) (hit_weights rule e.m) e.m e.rows c.m.ensures.valid.ballots (hit_weights-fall rule e.m) c.m.ensures.valid.counts (hit_weights-count rule e.m) c.args.total c.in_ok-level.level.items (c.in_ok-level.ensures.items ∙ ap (λ s. s ∷ []) made)
 
 pub next_level-requires : goal.next_level-requires
 next_level-requires g c =
@@ -29,7 +29,7 @@ loop-done-preserved g c =
     let more : c.loop-done.done < c.args.total = omega arith in
     let made : IsNextFamilies (step_of rule) (hit_weights rule e.m) e.m e.rows c.args.total c.loop-done.done c.loop-done.level.items c.in_ok-level-2.level.items =
     subst (λ l. IsNextFamilies (step_of rule) (hit_weights rule e.m) e.m e.rows c.args.total c.loop-done.done l c.in_ok-level-2.level.items) c.deref.ensures.value c.in_ok-level-2.ensures in
-    level-next (step_of rule) (hit_weights rule e.m) e.m e.rows c.m.ensures.valid.ballots (hit_weights-fall rule e.m) c.args.total c.loop-done.done more c.requires c.loop-done.level.items c.in_ok-level-2.level.items c.loop-done.invariant made
+    level-next (step_of rule) (hit_weights rule e.m) e.m e.rows c.m.ensures.valid.ballots (hit_weights-fall rule e.m) c.m.ensures.valid.counts (hit_weights-count rule e.m) c.args.total c.loop-done.done more c.requires c.loop-done.level.items c.in_ok-level-2.level.items c.loop-done.invariant made
 
 pub returns : goal.returns
 returns g c =
