@@ -1,6 +1,6 @@
 -- The choices that lead from a set to another one.
 use Rattle.std.proofs.lemmas.Grind.{common_steps}
-use Rattle.std.proofs.Common.{◌≡◌, ℕ, zero, suc, ◌+◌, ◌-◌, ◌<◌, ◌≤◌, not, ◌∙◌, Bool, true, List, [], ◌∷◌, refl, sym, ap, subst, arith, inl, inr, filter, length}
+use Rattle.std.proofs.Common.{◌≡◌, ℕ, zero, suc, ◌+◌, ◌-◌, ◌≤◌, not, ◌∙◌, Bool, true, List, [], ◌∷◌, refl, sym, ap, subst, arith, inl, inr, filter, length}
 use Rattle.std.specs.Prelude.{fold}
 use Rattle.std.specs.List.{range_with_len}
 use Rattle.std.proofs.lemmas.Bool.{cases_Bool, cases_lt, and_parts}
@@ -11,7 +11,7 @@ use Rattle.ballot_base.specs.Clones.{are_clones}
 use Rattle.tie_walk.specs.Steps.Choices.{change, follows, is_choice, open_candidates, start}
 use Rattle.tie_walk.specs.declared.sequential.Step.{Step}
 use Rattle.tie_walk.specs.declared.sequential.Step.TheVariants.{Grow, Shrink}
-use Rattle.tie_walk.proofs.Choices.{reached_none, reached_start, reached_more, reached_last}
+use Rattle.tie_walk.proofs.Choices.{reached_none, reached_more, reached_last}
 use Rattle.tie_walk.proofs.LevelLemmas.{reached-increasing}
 use Rattle.tie_walk.proofs.RowSums.{AreBallots}
 use Rattle.tie_walk.proofs.SequenceLemmas.{IsSized, reached-sized}
@@ -52,11 +52,10 @@ module _ (step : Step) (weights : List ℕ) (m : ℕ) (rows : List Row) (ballots
       let d = open-moves step weights m rows set other c up up' alike.1 free in (
         d.0,
         choice-moves step weights m rows ballots falls set other c d.0 up up' alike.0 alike.1 leads.1 d.2 d.1,
-        leads-moved n made (change step set c) (change step other d.0) (change-increasing step m set c up free) (change-increasing step m other d.0 up' d.1)
-            (
-              change-ahead step weights m rows set other c d.0 up up' free d.1 d.2 alike.0,
-              change-ahead step weights m rows other set d.0 c up' up d.1 free (clones-turned rows c d.0 d.2) alike.1,
-            )
+        leads-moved n made (change step set c) (change step other d.0) (change-increasing step m set c up free) (change-increasing step m other d.0 up' d.1) (
+          change-ahead step weights m rows set other c d.0 up up' free d.1 d.2 alike.0,
+          change-ahead step weights m rows other set d.0 c up' up d.1 free (clones-turned rows c d.0 d.2) alike.1,
+        )
             leads.2,
       )
 
@@ -129,7 +128,7 @@ module _ (step : Step) (weights : List ℕ) (m : ℕ) (rows : List Row) (ballots
     may-leads (suc n) made now up up' from ahead until sized =
         let t = some-more (are_clones rows) (clones-sameness rows) (picked step m now) (picked step m made) (omega (arith, sized)) in
         let c = some-passes (are_clones rows t.0) (open_candidates step m now)
-            (omega (arith, t.2, count-open step (are_clones rows t.0) m now up, count-open step (are_clones rows t.0) m made up')) in
+        (omega (arith, t.2, count-open step (are_clones rows t.0) m now up, count-open step (are_clones rows t.0) m made up')) in
         let more = λ (x : ℕ). count-change step (are_clones rows x) m now c.0 up c.1 in
         let next : IsAhead step m rows (change step now c.0) made = λ x. elim (cases_Bool (are_clones rows x c.0)) [
           | inl same ↦

@@ -1,8 +1,8 @@
 -- The families of a level have exactly the sets that all choices make.
 use Rattle.std.proofs.lemmas.Grind.{common_steps}
-use Rattle.std.proofs.Common.{◌≡◌, ℕ, zero, suc, ◌+◌, ◌-◌, ◌<◌, ◌≤◌, ◌==◌, Option, Some, None, not, ◌&&◌, ◌∙◌, Bool, true, false, cond, List, [], ◌∷◌, refl, sym, ap, subst, arith, inl, inr, filter, length, Contains}
+use Rattle.std.proofs.Common.{◌≡◌, ℕ, zero, suc, ◌+◌, ◌-◌, ◌<◌, ◌≤◌, ◌==◌, Option, Some, None, ◌&&◌, ◌∙◌, Bool, true, false, cond, List, [], ◌∷◌, refl, sym, ap, subst, arith, inl, inr, filter, length, Contains}
 use Rattle.std.specs.Prelude.{nat_le, nat_lt, slice_index_or}
-use Rattle.std.specs.List.{range_with_len, AllByRecursion}
+use Rattle.std.specs.List.{AllByRecursion}
 use Rattle.std.proofs.lemmas.List.Elements.{recursion_from_All, All-weaker, All-contains_itself}
 use Rattle.std.specs.List.Sorted.{IsStrictlySortedBy}
 use Rattle.std.specs.Cmp.Lexicographic.{slice_cmp}
@@ -11,27 +11,24 @@ use Rattle.std.proofs.lemmas.Bool.{cases_Bool, cases_eq, cases_lt, and_parts, le
 use Rattle.ballot_base.specs.Lists.{IsIncreasing}
 use Rattle.ballot_base.specs.CandSet.{has_member}
 use Rattle.ballot_base.specs.Ballots.{Row}
-use Rattle.ballot_base.specs.Clones.{are_clones, clones_among}
+use Rattle.ballot_base.specs.Clones.{are_clones}
 use Rattle.ballot_base.proofs.ListLemmas.{Contains-later, Contains-map, Contains-from_map, Contains-from_flat_map}
 use Rattle.ballot_base.proofs.Increasing.{has_member_head, has_member_tail}
 use Rattle.ballot_base.proofs.Passed.{filter-member, filter-stays}
-use Rattle.tie_walk.specs.Steps.Choices.{change, follows, is_choice, open_candidates, start}
+use Rattle.tie_walk.specs.Steps.Choices.{change, is_choice, open_candidates, start}
 use Rattle.tie_walk.specs.declared.sequential.Step.{Step}
 use Rattle.tie_walk.specs.declared.sequential.Step.TheVariants.{Grow, Shrink}
-use Rattle.tie_walk.proofs.Choices.{Contains-flat_map, Contains-range, reached_none, reached_more, reached_last}
-use Rattle.tie_walk.proofs.LawLemmas.{passes-from_filter, Contains-filter, IsIncreasing-range}
-use Rattle.tie_walk.proofs.LevelLemmas.{choice-parts, reached-increasing}
+use Rattle.tie_walk.proofs.Choices.{Contains-flat_map, reached_none}
+use Rattle.tie_walk.proofs.LawLemmas.{IsIncreasing-range}
 use Rattle.tie_walk.proofs.RowSums.{AreBallots}
-use Rattle.tie_walk.proofs.SequenceLemmas.{IsSized, reached-sized}
 use Rattle.sequential_winners.specs.Steps.Levels.{ties, tied_worth, is_near, beginners, end, chosen, followed, followers, family_changes, IsNextFamilies, IsFalling, AllCount, IsReachedBy, LeadsTo, IsPlaced, IsFamilyLevel}
-use Rattle.sequential_winners.proofs.CloneLemmas.{clones-turned, clones-joined, clones-sameness}
-use Rattle.sequential_winners.proofs.Lists.{Contains-only, members-of}
-use Rattle.sequential_winners.proofs.Numbers.{bit, some-more, some-passes, length-within, count-class, within-turned}
-use Rattle.sequential_winners.proofs.Picked.{chosen-left, count-open, change-increasing, count-change, chosen-change}
+use Rattle.sequential_winners.proofs.CloneLemmas.{clones-turned}
+use Rattle.sequential_winners.proofs.Lists.{Contains-only}
+use Rattle.sequential_winners.proofs.Picked.{change-increasing, chosen-change}
 use Rattle.sequential_winners.proofs.Leads.{reached-chosen, chosen-ahead, leads-moved, leads-joined, leads-reached, reached-leads, span-leads, leads-past}
 use Rattle.sequential_winners.proofs.SpanLemmas.{tied-is, tied-open, tied-class, end-span}
 use Rattle.sequential_winners.proofs.PhaseLemmas.{begins-near}
-use Rattle.sequential_winners.proofs.TiedClones.{open-moves, change-ahead, clone-undone, choice-open, choice-moves, first-tied}
+use Rattle.sequential_winners.proofs.TiedClones.{change-ahead, choice-open}
 
 -- ---- what follows a set
 
@@ -164,7 +161,7 @@ module _ (step : Step) (weights : List ℕ) (m : ℕ) (rows : List Row) (total :
             let free = choice-open step weights m rows set c first.1 in
             let d = tied-class step weights m rows ballots falls set up c first.1 in
             let v = begin (nat_lt 0 (tied_worth step weights m rows set) && nat_le (length (ties step weights m rows set)) (total - chosen step m set)) refl d.0 d.1
-                (moved c d.0 free d.1 d.2 first.2) in
+            (moved c d.0 free d.1 d.2 first.2) in
             let one = chosen-change step m set v.0 up (tied-open step weights m rows set v.0 (begins-tied step weights m rows (total - chosen step m set) set v.0 v.1)) in
             let i : total - chosen step m set - 1 ≡ total - chosen step m (change step set v.0) = omega (arith, one) in
             (change step set v.0, changed-contains set v.0 none v.1, subst (λ j. LeadsTo step weights m rows made j (change step set v.0)) i v.2)
@@ -174,8 +171,7 @@ module _ (step : Step) (weights : List ℕ) (m : ℕ) (rows : List Row) (total :
                 → LeadsTo step weights m rows made (total - chosen step m set - 1) (change step set c) → LeadsTo step weights m rows made (total - chosen step m set - 1) (change step set d)
             moved c d free tie clone rest =
                 let free' = tied-open step weights m rows set d tie in
-                leads-moved step weights m rows ballots falls (total - chosen step m set - 1) made (change step set c) (change step set d) (change-increasing step m set c up free) (change-increasing step m set d up free')
-                (
+                leads-moved step weights m rows ballots falls (total - chosen step m set - 1) made (change step set c) (change step set d) (change-increasing step m set c up free) (change-increasing step m set d up free') (
                   change-ahead step weights m rows set set c d up up free free' clone (λ x. omega arith),
                   change-ahead step weights m rows set set d c up up free' free (clones-turned rows c d clone) (λ x. omega arith),
                 )
@@ -190,7 +186,7 @@ module _ (step : Step) (weights : List ℕ) (m : ℕ) (rows : List Row) (total :
                 let parts = and_parts (nat_lt 0 (tied_worth step weights m rows set)) (nat_le (length (ties step weights m rows set)) (total - chosen step m set)) room in
                 let u = slice_index_or (ties step weights m rows set) 0 0 in
                 let v = begins-near step weights m rows ballots falls counts all-count set up (ltb-true 0 (tied_worth step weights m rows set) parts.0) u (first-member (ties step weights m rows set) d tie) (total - chosen step m set)
-                    (leb-true (length (ties step weights m rows set)) (total - chosen step m set) parts.1) made leads in
+                (leb-true (length (ties step weights m rows set)) (total - chosen step m set) parts.1) made leads in
                 (v.0, filter-stays (is_near step weights rows set u) (ties step weights m rows set) v.0 v.1 v.2, v.3)
 
 -- ---- levels
@@ -249,7 +245,7 @@ module _ (step : Step) (weights : List ℕ) (m : ℕ) (rows : List Row) (ballots
     next-placed set inside = by (from-next set inside)
       where
         further : (chosen step m set ≡ size → ⊥) → IsPlaced step weights m rows total size set → IsPlaced step weights m rows total (size + 1) set
-        further other (few, inl many) = (few, inl (elim (cases_lt size (chosen step m set)) [ | inl less ↦ omega (arith, less) | inr most ↦ absurd (other (omega (arith, most, many))) ]))
+        further other (few, inl many) = (few, inl (elim (cases_lt size (chosen step m set)) [ inl less ↦ omega (arith, less) | inr most ↦ absurd (other (omega (arith, most, many))) ]))
         further other (few, inr lasts) = (few, inr lasts)
 
         by : IsFrom set → IsIncreasing 1 m set × IsPlaced step weights m rows total (size + 1) set

@@ -1,27 +1,26 @@
 -- While the best worth stays the same, those who share no voter who still gives are chosen in any order.
-use Rattle.std.proofs.lemmas.Grind.{common_steps}
-use Rattle.std.proofs.Common.{◌≡◌, ℕ, zero, suc, ◌+◌, ◌-◌, ◌*◌, ◌<◌, ◌≤◌, ◌==◌, ◌&&◌, ◌||◌, ◌⊎◌, ◌∙◌, Bool, true, false, cond, not, List, [], ◌∷◌, refl, sym, ap, subst, arith, inl, inr, length, count_by, filter}
+use Rattle.std.proofs.Common.{◌≡◌, ℕ, zero, suc, ◌+◌, ◌-◌, ◌*◌, ◌<◌, ◌≤◌, ◌==◌, ◌&&◌, ◌||◌, ◌⊎◌, ◌∙◌, Bool, true, false, cond, not, List, [], ◌∷◌, refl, sym, ap, subst, arith, inl, inr, length, count_by}
 use Rattle.std.specs.Prelude.{nat_lt, fold}
-use Rattle.std.specs.List.{AllByRecursion, list_all, list_any, range_with_len}
-use Rattle.std.proofs.lemmas.Bool.{cases_Bool, cases_eq, cases_lt, and_parts, and_from, both_ways, eqb-true, eq-eqb, ltb-true, lt-ltb, or_right}
+use Rattle.std.specs.List.{AllByRecursion, list_any}
+use Rattle.std.proofs.lemmas.Bool.{cases_Bool, cases_lt, and_parts, and_from, both_ways, eqb-true, eq-eqb, ltb-true, lt-ltb}
 use Rattle.std.proofs.lemmas.List.Sums.{sum_by-cons}
 use Rattle.ballot_base.specs.Lists.{IsIncreasing}
 use Rattle.ballot_base.specs.CandSet.{has_member, with_member, without_member}
 use Rattle.ballot_base.specs.Ballots.{Row, hits}
 use Rattle.ballot_base.specs.Clones.{are_clones}
-use Rattle.ballot_base.proofs.Increasing.{has_member-with_member, has_member-filter}
+use Rattle.ballot_base.proofs.Increasing.{has_member-with_member}
 use Rattle.tie_walk.specs.Sequences.{weight}
-use Rattle.tie_walk.specs.Steps.Choices.{change, hits_of, is_choice, is_no_better, open_candidates, worth}
+use Rattle.tie_walk.specs.Steps.Choices.{change, is_choice, is_no_better, open_candidates, worth}
 use Rattle.tie_walk.specs.declared.sequential.Step.{Step}
 use Rattle.tie_walk.specs.declared.sequential.Step.TheVariants.{Grow, Shrink}
 use Rattle.tie_walk.proofs.RowSums.{AreBallots}
 use Rattle.tie_walk.proofs.WorthLemmas.{share, partial, worth-whole}
 use Rattle.sequential_winners.specs.Clones.{clone_count}
-use Rattle.sequential_winners.specs.Steps.Levels.{ties, next_hit, share_voter, picked, chosen, tied_worth, IsAhead, IsFalling, AllCount, IsAlike, LeadsTo}
+use Rattle.sequential_winners.specs.Steps.Levels.{ties, next_hit, share_voter, picked, tied_worth, IsAhead, IsFalling, AllCount, LeadsTo}
 use Rattle.sequential_winners.proofs.CloneLemmas.{IsWhole, clones-itself, clones-turned, clones-joined, clones-sameness, hits-members}
 use Rattle.sequential_winners.proofs.Lists.{open-is, member-without, with-increasing}
 use Rattle.sequential_winners.proofs.Numbers.{bit, some-passes, member-counts, count-cons, count-class, count-with, count-without, length-sum, count-both}
-use Rattle.sequential_winners.proofs.Picked.{chosen-open, count-open, change-increasing, count-change, chosen-change}
+use Rattle.sequential_winners.proofs.Picked.{count-open, change-increasing, count-change, chosen-change}
 use Rattle.sequential_winners.proofs.RowLemmas.{each-row, no-better_given, worse-shared, falling_share, IsQuiet}
 use Rattle.sequential_winners.proofs.TiedClones.{no_better-joined, no-better-ahead, open-moves, choice-from, choice-best, choice-open}
 use Rattle.std.proofs.Math.Bool.{and_comm}
@@ -202,7 +201,7 @@ module _ (step : Step) (weights : List ℕ) (m : ℕ) (rows : List Row) (ballots
     apart-more together is t tie none =
         let bounds = (open-is step m set t (tied-open step weights m rows set t tie)).0 in record {
           increasing = with-increasing m together t is.increasing bounds.0 bounds.1;
-          tied = λ s inside. elim (member-with together t s inside) [ | inl same ↦ subst (λ x. has_member (ties step weights m rows set) x ≡ true) same tie | inr old ↦ is.tied s old ];
+          tied = λ s inside. elim (member-with together t s inside) [ inl same ↦ subst (λ x. has_member (ties step weights m rows set) x ≡ true) same tie | inr old ↦ is.tied s old ];
           apart = λ c d inside inside' other. elim (member-with together t c inside) [
             | inl same ↦ elim (member-with together t d inside') [
               | inl also ↦ absurd (other (sym same ∙ also))
@@ -223,7 +222,7 @@ module _ (step : Step) (weights : List ℕ) (m : ℕ) (rows : List Row) (ballots
         ahead-now x = omega (arith, at x)
 
         u-out : has_member together u ≡ false
-        u-out = elim (cases_Bool (has_member together u)) [ | inl inside ↦ absurd (both_ways (share_voter step weights rows set u u) (none u inside) (shares-itself u tie)) | inr out ↦ out ]
+        u-out = elim (cases_Bool (has_member together u)) [ inl inside ↦ absurd (both_ways (share_voter step weights rows set u u) (none u inside) (shares-itself u tie)) | inr out ↦ out ]
 
         -- nobody who may be chosen then is worse than those who tied
         no-worse : (c : ℕ) → is_choice step weights m rows now c ≡ true → (t : ℕ) × (has_member (ties step weights m rows set) t ≡ true) × (is_no_better step (worth step weights rows set t) (worth step weights rows now c) ≡ true)
@@ -232,17 +231,17 @@ module _ (step : Step) (weights : List ℕ) (m : ℕ) (rows : List Row) (ballots
             let all = with-is (with_member together u) more in
             let one = λ (p : ℕ → Bool). count-with p together u u-out in
             let v = some-passes (are_clones rows u) (open_candidates step m now)
-                (omega (
-                  arith,
-                  at u,
-                  one (are_clones rows u),
-                  all.1 (are_clones rows u),
-                  ap bit (clones-itself rows u),
-                  count-open step (are_clones rows u) m now up',
-                  count-open step (are_clones rows u) m (with-all (with_member together u)) all.0,
-                )) in
+            (omega (
+              arith,
+              at u,
+              one (are_clones rows u),
+              all.1 (are_clones rows u),
+              ap bit (clones-itself rows u),
+              count-open step (are_clones rows u) m now up',
+              count-open step (are_clones rows u) m (with-all (with_member together u)) all.0,
+            )) in
             let t = still-worth (with_member together u) more now up' ahead-now v.0 v.1
-                (λ x. omega (arith, at x, one (are_clones rows x), count-change step (are_clones rows x) m now v.0 up' v.1, bits-same u v.0 x v.2)) in
+            (λ x. omega (arith, at x, one (are_clones rows x), count-change step (are_clones rows x) m now v.0 up' v.1, bits-same u v.0 x v.2)) in
             (t.0, more.tied t.0 t.1, no_better-joined step (worth step weights rows set t.0) (worth step weights rows now v.0) (worth step weights rows now c) t.2 (choice-best step weights m rows now c v.0 choice v.1))
 
         next-tied : (c : ℕ) → is_choice step weights m rows now c ≡ true
@@ -252,11 +251,11 @@ module _ (step : Step) (weights : List ℕ) (m : ℕ) (rows : List Row) (ballots
             let low = no-worse c choice in
             let d = open-moves step weights m rows now set c up' up ahead-now free in
             let fine = no_better-joined step (worth step weights rows set low.0) (worth step weights rows now c) (worth step weights rows set d.0) low.2
-                (no-better-ahead step weights m rows ballots falls set now d.0 c up up' ahead-now (clones-turned rows c d.0 d.2) free) in
+            (no-better-ahead step weights m rows ballots falls set now d.0 c up up' ahead-now (clones-turned rows c d.0 d.2) free) in
             let t = tied-class step weights m rows ballots falls set up d.0
-                (choice-from step weights m rows set d.0 d.1
-                (λ e free'. no_better-joined step (worth step weights rows set e) (worth step weights rows set low.0) (worth step weights rows set d.0)
-                (choice-best step weights m rows set low.0 e (tied-is step weights m rows set low.0 low.1) free') fine)) in
+            (choice-from step weights m rows set d.0 d.1
+            (λ e free'. no_better-joined step (worth step weights rows set e) (worth step weights rows set low.0) (worth step weights rows set d.0)
+            (choice-best step weights m rows set low.0 e (tied-is step weights m rows set low.0 low.1) free') fine)) in
             let clone = clones-joined rows c d.0 t.0 d.2 t.2 in
             (t.0, t.1, clone, λ s inside. out c choice free low t.0 t.1 clone s inside)
           where
@@ -336,7 +335,7 @@ module _ (step : Step) (weights : List ℕ) (m : ℕ) (rows : List Row) (ballots
             | inl is-near ↦ (t.0, t.1, is-near, first-of together is t.0 t.1 t.3 out n next next-up next-at (omega (arith, long)) leads.2)
             | inr is-far ↦
                 walk n (with_member together t.0) next more
-                (λ s inside. elim (member-with together t.0 s inside) [ | inl same ↦ subst (λ x. near u x ≡ false) same is-far | inr old ↦ far s old ])
+                (λ s inside. elim (member-with together t.0 s inside) [ inl same ↦ subst (λ x. near u x ≡ false) same is-far | inr old ↦ far s old ])
                 (omega (arith, long, count-with (λ (x : ℕ). true) together t.0 out, length-sum together, length-sum (with_member together t.0))) next-up next-at leads.2
           ]
         where

@@ -121,8 +121,8 @@ module _ (step : Step) (weights : List ℕ) (m : ℕ) (rows : List Row) (ballots
               | inr other ↦ omega (arith, above x, last-count (are_clones rows x), fewer (are_clones rows x), ap bit other)
             ];
           })
-          (each-row m rows (λ (row : Row). hits row.0 all ≤ 1) (λ (row : Row). has_member row.0 t.0 ≡ true → 0 + count_by (has_member row.0) (without_member all t.0) ≤ count_by (has_member row.0) []) ballots (few-of all rows apart)
-                (λ row ballot whole few approved. omega (arith, few, hits-members m row.0 all ballot (tied-increasing step weights m rows set), fewer (has_member row.0), ap bit approved))),
+              (each-row m rows (λ (row : Row). hits row.0 all ≤ 1) (λ (row : Row). has_member row.0 t.0 ≡ true → 0 + count_by (has_member row.0) (without_member all t.0) ≤ count_by (has_member row.0) []) ballots (few-of all rows apart)
+              (λ row ballot whole few approved. omega (arith, few, hits-members m row.0 all ballot (tied-increasing step weights m rows set), fewer (has_member row.0), ap bit approved))),
         )
 
     -- of a class of which no more are picked at the end, a candidate is worse

@@ -130,12 +130,7 @@ impl<A: Allocator + Copy + Drop> Levels<'_, A> {
 
     /// Adds what follows a set: its end; or the set itself, if its end lies beyond all `total` choices; or the sets
     /// that one choice makes.
-    fn follow(
-        &self,
-        found: &mut FoundSets<A>,
-        set: CandSet,
-        total: u8,
-    ) -> Result<(), AllocError>
+    fn follow(&self, found: &mut FoundSets<A>, set: CandSet, total: u8) -> Result<(), AllocError>
         requires { IsIncreasing 1 self.now.choices.profile.now.m set }
         ensures { OnOk result (HasSetsOf (found.old.keys
             ++ followers_by self.now.choices.rule self.now.choices.profile.now total set) found.new.keys) }
@@ -183,7 +178,11 @@ impl<A: Allocator + Copy + Drop> Levels<'_, A> {
     }
 
     /// The families that `total` choices make.
-    pub(crate) fn reached_families(&self, alloc: A, total: u8) -> Result<Vec<CandSet, A>, AllocError>
+    pub(crate) fn reached_families(
+        &self,
+        alloc: A,
+        total: u8,
+    ) -> Result<Vec<CandSet, A>, AllocError>
         requires { total ≤ self.now.choices.profile.now.m }
         ensures { IfOk result (λ sets.
             AreReached self.now.choices.rule self.now.choices.profile.now total total sets.items) }

@@ -1,4 +1,4 @@
-use Rattle.std.proofs.Common.{◌≡◌, ℕ, ◌<◌, ◌&&◌, ◌∙◌, Bool, true, false, sym, ap, subst, arith, take}
+use Rattle.std.proofs.Common.{◌≡◌, ◌&&◌, ◌∙◌, false, sym, ap, arith, take}
 use Rattle.std.specs.Prelude.{nat_lt}
 use Rattle.std.proofs.lemmas.Bool.{lt-ltb, le-ltb}
 use Rattle.ballot_base.specs.CandSet.{has_member}
