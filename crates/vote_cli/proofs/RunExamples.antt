@@ -1,5 +1,5 @@
 -- Answers and what runs leave, computed on small examples.
-use Rattle.std.proofs.Common.{Option, ◌≡◌, ℕ, zero, suc, ap, arith, ◌+◌, ◌^◌, List, [], ◌∷◌, ◌++◌, true, false, true≢false, sym, ◌∙◌, Some, None, Ok, Err, inl, inr, refl, lit≤, Bool}
+use Rattle.std.proofs.Common.{◌≡◌, ℕ, zero, suc, ap, arith, ◌+◌, ◌^◌, List, [], ◌∷◌, ◌++◌, true, false, true≢false, sym, ◌∙◌, Some, None, Ok, Err, inl, inr, refl, lit≤, Bool}
 use Rattle.std.specs.Prelude.{codes}
 use Rattle.std.specs.List.{range_with_len}
 use Rattle.std.proofs.lemmas.Bool.{both_ways}

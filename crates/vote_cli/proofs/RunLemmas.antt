@@ -31,7 +31,7 @@ use Rattle.text_output.specs.Names.{Names, naming}
 use Rattle.vote_cli.specs.Steps.RequestFaults.{request_fault_word}
 use Rattle.vote_cli.specs.Answer.{Answer, IsAnswer, IsAnswerAbout, IsAnswerOver, IsAnswerTo, IsCheckAnswer, ballots_answer, may_be_checked, share_answer, answered, request_refused, refused, violated}
 use Rattle.vote_cli.specs.Runs.{Ends, EndsAnswered, IsRight, IsTooLong, ReadsInput, ReadsSoundly, Reports, flushes_for, input_for}
-use Rattle.text_output.specs.Steps.Printing.{Calls, Passes, Sends, SendsAll, calls_of, flushed_once}
+use Rattle.text_output.specs.Steps.Printing.{Calls, Passes, Sends, SendsAll, flushed_once}
 use Rattle.text_output.proofs.PrintingLemmas.{Passes-broken, Passes-cut, Passes-flushed, Passes-then, alone}
 use Rattle.vote_cli.proofs.StartLemmas.{may_be_checked-true}
 use Rattle.vote_cli.specs.Steps.Refusals.{WritesRight, Writes, ReadsBallots, ReadsOn, TellsOfReads, TellsOfWrites, error_of, status_of}
