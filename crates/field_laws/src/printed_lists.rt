@@ -11,7 +11,8 @@ pub fn committees_can_be_read_back()
     ensures { (names other_names : Names) (limit other_limit : Option ℕ) (answers others : List (List ℕ))
         → AreInLines names → AreInLines other_names
         → AllByRecursion AreNumbers answers → AllByRecursion AreNumbers others
-        → answers_text (committee_line names) limit answers ≡ answers_text (committee_line other_names) other_limit others
+        → answers_text (committee_line names) limit answers
+        ≡ answers_text (committee_line other_names) other_limit others
         → (within_limit limit answers ≡ within_limit other_limit others)
         × (has_more limit answers ≡ has_more other_limit others) }
 {}

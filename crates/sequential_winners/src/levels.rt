@@ -13,10 +13,10 @@
 //!   still to be made as candidates tie, the first of them or somebody near it, with such a voter in common, is chosen
 //!   before the best gain falls, and may be chosen at once (`proofs/PhaseLemmas.antt`). So only these are followed.
 //!
-//! In the second and third case all choices lead to one set, the `end`: all candidates, or the set with all tied ones. Only the
-//! end is followed, once as many choices were made. If it lies beyond the committee's size, the set stays for good, and
-//! stands for all sets between the two. `proofs/LevelLemmas.antt` shows, by induction over levels, that the choices
-//! still to be made lead from the sets of a level to exactly the committees that some sequence of choices makes.
+//! In the second and third case all choices lead to one set, the `end`: all candidates, or the set with all tied ones.
+//! Only the end is followed, once as many choices were made. If it lies beyond the committee's size, the set stays for
+//! good, and stands for all sets between the two. `proofs/LevelLemmas.antt` shows, by induction over levels, that the
+//! choices still to be made lead from the sets of a level to exactly the committees that some sequence of choices makes.
 ghost use Rattle.std.specs.Prelude.{◌≡◌, ◌≤◌, ◌++◌, ◌&&◌, nat_lt, true, None, IfOk, OnOk};
 ghost use Rattle.std.specs.List.{AllByRecursion};
 ghost use Rattle.ballot_base.specs.Clones.{AreClones};
@@ -31,8 +31,8 @@ use std::alloc::{AllocError, Allocator};
 use std::collections::HashSet;
 use tie_walk::sequential::{Choices, FoundSets, Step, in_order};
 
-/// A sequential rule on a profile, followed level by level: level `n` has the sets that `n` choices
-/// make, the ends that wait for their own level, and the sets that stay for good.
+/// A sequential rule on a profile, followed level by level: level `n` has the sets that `n` choices make, the ends that
+/// wait for their own level, and the sets that stay for good.
 #[derive(Drop)]
 pub(crate) struct Levels<'a, A: Allocator + Copy> {
     pub(crate) choices: Choices<'a, A>,

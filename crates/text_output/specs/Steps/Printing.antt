@@ -56,5 +56,5 @@ module _ {W : Type 0} (contents : W → Option (List ℕ)) (calls : W → Calls)
   -- it printed the text, and its writer was flushed once
   pub record PrintsAll (before after : Printer W) (ok : Bool) (text : List ℕ) : Type 0 where
     pub same_writer : after.out.ghost_name ≡ before.out.ghost_name
-    pub passed : Passes (flushed (outlet before.out.now before.pending.items)) (outlet after.out.now after.pending.items)
-        ok text
+    pub passed : Passes (flushed (outlet before.out.now before.pending.items))
+        (outlet after.out.now after.pending.items) ok text
