@@ -9,5 +9,6 @@ pub mod majorant;
 pub mod pairs;
 pub mod prices;
 
-pub use majorant::{HitSums, PAIR_UNITS};
+pub use majorant::{HitSums, Shape};
+pub use pairs::PairSearch;
 pub use prices::{AGAIN, NODE, PriceSearch, Priced};

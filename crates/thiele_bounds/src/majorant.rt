@@ -4,18 +4,33 @@
 //! number of ordered pairs of members that the voter approves, majorants see where members overlap. Any `worth` and
 //! `overlap` are right, as `kept` is made as high as it must be.
 ghost use Rattle.std.specs.Prelude.{◌≡◌, ℕ, ◌+◌, ◌*◌, ◌^◌, ◌≤◌, min, slice_index, MatchOption, ⊤};
-ghost use Rattle.ballot_base.specs.Limits.{most_candidates, most_members};
+ghost use Rattle.ballot_base.specs.Limits.{most_candidates, most_members, most_voters};
 ghost use Rattle.ballot_base.specs.Increments.{increments};
-ghost use Rattle.thiele_bounds.specs.Steps.Paired.{AreSums, IsMajorantOf};
-ghost use Rattle.thiele_bounds.specs.Steps.Units.{most_given, most_given_to_pairs, most_units};
+ghost use Rattle.thiele_bounds.specs.Steps.Paired.{AreSmallSums, AreSums, IsMajorantOf, most_sum};
+ghost use Rattle.thiele_bounds.specs.Steps.Units.{most_given, most_overlap, most_units};
 ghost use Rattle.thiele_bounds.specs.Steps.Majorants.{AreMajorants, Majorized};
 
 use ballot_base::{Increments, PLACES, ThieleRule};
 use row_multipliers::multipliers::Wanted;
 use std::marker::Model;
 
-/// The first hit gives about this many units in sums for majorants: enough that rounding matters little.
-pub const PAIR_UNITS: u128 = 1 << 20;
+/// The overlaps of all voters together have at most this many units, if the first hit gives a 64th of it or less.
+const MOST_FIRST_UNITS: u128 = 1 << 52;
+
+/// The first hit of one of few voters gives this many units in sums for majorants.
+const FEW_VOTERS: u64 = 1 << 12;
+
+/// The number of units that the first hit gives in sums for majorants, as many as fit: 2^40 for up to 4,096 voters, and
+/// at least 2^20. If rounding matters, a bound that only just excludes a value does not exclude it. With 2^20, complete
+/// graphs of 40 candidates did not end.
+fn pair_units(voters: u64) -> u128
+    requires most { voters ≤ most_voters }
+    ensures some { 1 ≤ result }
+    ensures most { result ≤ most_units }
+    ensures fits { voters * (64 * result) ≤ most_overlap }
+{
+    MOST_FIRST_UNITS / u128::from(voters.max(FEW_VOTERS))
+}
 
 /// All hits of a voter together give at most this many times the first one.
 const MOST_FIRST_HITS: u128 = 64;
@@ -35,6 +50,18 @@ pub struct HitSums {
 }
 
 impl HitSums {
+    /// The sums for majorants under a rule, of an election with this many voters. Returns `None` only if a hit added
+    /// more than the one before it, as under no rule.
+    pub fn for_pairs(rule: ThieleRule, k: u8, voters: u64) -> Option<HitSums>
+        requires some { 1 ≤ k }
+        requires size { k ≤ most_members }
+        requires voters { voters ≤ most_voters }
+        ensures { MatchOption result ⊤ (λ given. AreSums (increments rule k) given.scale given.unit given.sums
+            × (voters * most_sum given.sums ≤ most_overlap)) }
+    {
+        HitSums::of(rule, k, pair_units(voters))
+    }
+
     /// The sums under a rule, with about `units` units for the first hit. Returns `None` if they would be too large, or
     /// if a hit added more than the one before it, as under no rule.
     pub fn of(rule: ThieleRule, k: u8, units: u128) -> Option<HitSums>
@@ -123,11 +150,26 @@ pub(crate) struct Majorant {
     pub(crate) overlap: u64,
 }
 
+/// How majorants are drawn.
+#[derive(Clone, Copy, PartialEq, Eq)]
+pub enum Shape {
+    /// A line. No bound is lower if all ballots can have about as many hits, as those of a grid's rows and columns.
+    Linear,
+    /// A concave parabola, which sees where members overlap.
+    Quadratic,
+}
+
 impl Majorant {
     /// A majorant for up to `most` hits after the first `before`. It is exact at `touch` further hits and at one more,
     /// as far as that can be.
-    pub(crate) fn at(sums: &[u64; PLACES], before: u8, most: u8, touch: u8) -> Majorant
-        requires small { (n : ℕ) → slice_index sums.now n ≤ most_given_to_pairs }
+    pub(crate) fn at(
+        sums: &[u64; PLACES],
+        before: u8,
+        most: u8,
+        touch: u8,
+        shape: Shape,
+    ) -> Majorant
+        requires small { AreSmallSums sums.now }
         requires fits { before + most ≤ most_candidates }
         requires touch { touch ≤ most }
         ensures { IsMajorantOf sums.now before most result }
@@ -142,7 +184,12 @@ impl Majorant {
         let rise = sums[first + usize::from(most)].saturating_sub(sums[at]);
         // How much an increment falls by, in half a step, if the first is `step` and all of the run rise by `rise`.
         let run = u64::from(most - touch);
-        let fall = (step * run).saturating_sub(rise) / (run * run.saturating_sub(1)).max(1);
+        let fall = match shape {
+            Shape::Linear => 0,
+            Shape::Quadratic => {
+                (step * run).saturating_sub(rise) / (run * run.saturating_sub(1)).max(1)
+            }
+        };
         let overlap = fall.min(step);
         let worth = step + overlap * (2 * u64::from(touch) + 1);
         let mut kept = 0;
@@ -174,6 +221,7 @@ pub(crate) struct Majorants<'a> {
     sums: &'a [u64; PLACES],
     left: u8,
     free: u8,
+    shape: Shape,
     table: [Option<Majorant>; TABLE_PLACES],
 }
 
@@ -182,14 +230,18 @@ impl<'a> Model for Majorants<'a> {
 
     ghost view = { λ t. record { sums = t.sums.now; left = t.left } };
 
-    ghost invariant = { λ t. (1 ≤ t.free) × ((n : ℕ) → slice_index t.sums.now n ≤ most_given_to_pairs)
-        × AreMajorants t.sums.now t.left t.table };
+    ghost invariant = { λ t. (1 ≤ t.free) × AreSmallSums t.sums.now × AreMajorants t.sums.now t.left t.table };
 }
 
 impl<'a> Majorants<'a> {
-    pub(crate) fn new(sums: &'a [u64; PLACES], left: u8, free: u8) -> Majorants<'a>
+    pub(crate) fn new(
+        sums: &'a [u64; PLACES],
+        left: u8,
+        free: u8,
+        shape: Shape,
+    ) -> Majorants<'a>
         requires some { 1 ≤ free }
-        requires small { (n : ℕ) → slice_index sums.now n ≤ most_given_to_pairs }
+        requires small { AreSmallSums sums.now }
         ensures sums { result.sums ≡ sums.now }
         ensures left { result.left ≡ left }
     {
@@ -197,6 +249,7 @@ impl<'a> Majorants<'a> {
             sums,
             left,
             free,
+            shape,
             table: [None; TABLE_PLACES],
         }
     }
@@ -228,6 +281,12 @@ impl<'a> Majorants<'a> {
     {
         let most = self.left.min(approved);
         let mean = usize::from(approved) * usize::from(self.left) / usize::from(self.free);
-        Majorant::at(self.sums, before, most, mean.min(usize::from(most)) as u8)
+        // After the last number of hits but two, a parabola would be a line.
+        let last = match self.shape {
+            Shape::Linear => most,
+            Shape::Quadratic => most.saturating_sub(2),
+        };
+        let touch = mean.min(usize::from(last)) as u8;
+        Majorant::at(self.sums, before, most, touch, self.shape)
     }
 }

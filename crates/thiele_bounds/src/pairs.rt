@@ -6,15 +6,16 @@
 //! 1980). A candidate leaves if every completion with it falls short.
 ghost use Rattle.std.specs.Prelude.{◌≡◌, ℕ, ◌+◌, ◌-◌, ◌*◌, ◌^◌, ◌<◌, ◌≤◌, ◌==◌, true, List, length, max, min, slice_index, if◌then◌else◌};
 ghost use Rattle.ballot_base.specs.CandSet.{has_member};
+ghost use Rattle.ballot_base.specs.Ballots.{voter_count};
 ghost use Rattle.ballot_base.specs.Limits.{most_candidates, most_voters, worth_limit};
 ghost use Rattle.ballot_base.specs.Lists.{IsIncreasing};
 ghost use Rattle.row_multipliers.specs.Completions.{IsNode};
-ghost use Rattle.thiele_bounds.specs.Steps.Paired.{AreNothing, IsSmallMajorant, overlap_at, pair_place, triangle};
+ghost use Rattle.thiele_bounds.specs.Steps.Paired.{AreNothing, IsSmallMajorant, most_sum, overlap_at, pair_place, triangle};
 ghost use Rattle.thiele_bounds.specs.Steps.Rows.{AreBeside, AreRows, IsSum};
 ghost use Rattle.thiele_bounds.specs.Steps.Totals.{AreSmall, BoundNode, NarrowsUnder};
-ghost use Rattle.thiele_bounds.specs.Steps.Units.{most_given_to_pairs};
+ghost use Rattle.thiele_bounds.specs.Steps.Units.{most_given, most_overlap};
 
-use crate::majorant::{HitSums, Majorant, Majorants};
+use crate::majorant::{HitSums, Majorant, Majorants, Shape};
 use ballot_base::{CandSet, MOST_CANDIDATES, Profile, Worths};
 use row_multipliers::Node;
 use std::alloc::Allocator;
@@ -36,66 +37,68 @@ struct Totals {
     overlaps: Table,
 }
 
-/// The free candidates of a node that can still join, if a committee has to reach the value `least`. Returns `None`
-/// only if no completion of its set does. Counts are not kept for later nodes: when they were, long lists of ties took
-/// a quarter more instructions.
-pub fn narrowed<A: Allocator + Copy>(
-    profile: &Profile<A>,
-    given: &HitSums,
-    node: &Node,
-    least: u128,
-) -> Option<CandSet>
-    requires size { profile.now.m ≤ most_candidates }
-    requires small { (n : ℕ) → slice_index given.now.sums n ≤ most_given_to_pairs }
-    requires is_node { IsNode profile.now.m node.now.set node.now.free }
-    requires several { 2 ≤ node.now.left }
-    ensures { NarrowsUnder given.now profile.now node.now least result }
-{
-    if node.free.len() < node.left {
-        return None;
-    }
-    let mut totals = Totals {
-        kept: 0,
-        worths: Worths::none(),
-        overlaps: [0; TABLE_PLACES],
-    };
-    add_ballots(&mut totals, profile, given, node);
-    let (free, left) = (node.free, node.left);
-    let factor = 2 * u128::from(left - 1);
-    let raise = factor * u128::from(totals.greatest_overlap());
-    let rows = Rows {
-        totals: &totals,
-        free,
-        left,
-        raise,
-    };
-    let due = given
-        .units(least)
-        .saturating_mul(factor)
-        .saturating_add(u128::from(left) * u128::from(left) * raise);
-    rows.sums()
-        .members_for(free, left, due.saturating_sub(factor * totals.kept))
+/// What a search looks for by pairs: the ballots, what hits give, and the value that a committee has to reach.
+#[derive(Drop)]
+pub struct PairSearch<'a, A: Allocator + Copy> {
+    pub profile: &'a Profile<A>,
+    pub given: &'a HitSums,
+    pub least: u128,
+    ghost size: { profile.now.m ≤ most_candidates },
+    ghost fits: { voter_count profile.now.rows * most_sum given.now.sums ≤ most_overlap },
 }
 
-fn add_ballots<A: Allocator + Copy>(
-    totals: &mut Totals,
-    profile: &Profile<A>,
-    given: &HitSums,
-    node: &Node,
-)
-    requires small { (n : ℕ) → slice_index given.now.sums n ≤ most_given_to_pairs }
-    requires is_node { IsNode profile.now.m node.now.set node.now.free }
-    requires some { 1 ≤ length node.now.free }
-    requires nothing { AreNothing totals.old.kept totals.old.worths totals.old.overlaps }
-    ensures totals { BoundNode given.now profile.now node.now totals.new.kept totals.new.worths totals.new.overlaps }
-    ensures small { AreSmall totals.new }
-{
-    let mut majorants = Majorants::new(&given.sums, node.left, node.free.len());
-    for (ballot, voters) in profile.ballots() {
-        let approved = ballot.common(node.free);
-        let before = ballot.common(node.set).len();
-        let majorant = majorants.of_ballot(before, approved.len());
-        totals.add(majorant, approved, voters);
+impl<A: Allocator + Copy> PairSearch<'_, A> {
+    /// The free candidates of a node that can still join, by majorants of a shape. Returns `None` only if no completion
+    /// of its set reaches the value. Counts are not kept for later nodes: when they were, long lists of ties took a
+    /// quarter more instructions.
+    pub fn narrowed(&self, node: &Node, shape: Shape) -> Option<CandSet>
+        requires is_node { IsNode self.now.profile.now.m node.now.set node.now.free }
+        requires several { 2 ≤ node.now.left }
+        ensures { NarrowsUnder self.now.given.now self.now.profile.now node.now self.now.least result }
+    {
+        if node.free.len() < node.left {
+            return None;
+        }
+        let mut totals = Totals {
+            kept: 0,
+            worths: Worths::none(),
+            overlaps: [0; TABLE_PLACES],
+        };
+        self.add_ballots(&mut totals, node, shape);
+        let (free, left) = (node.free, node.left);
+        let factor = 2 * u128::from(left - 1);
+        let raise = factor * u128::from(totals.greatest_overlap());
+        let rows = Rows {
+            totals: &totals,
+            free,
+            left,
+            raise,
+        };
+        let due = self
+            .given
+            .units(self.least)
+            .saturating_mul(factor)
+            .saturating_add(u128::from(left) * u128::from(left) * raise);
+        rows.sums()
+            .members_for(free, left, due.saturating_sub(factor * totals.kept))
+    }
+
+    fn add_ballots(&self, totals: &mut Totals, node: &Node, shape: Shape)
+        requires is_node { IsNode self.now.profile.now.m node.now.set node.now.free }
+        requires some { 1 ≤ length node.now.free }
+        requires nothing { AreNothing totals.old.kept totals.old.worths totals.old.overlaps }
+        ensures totals { BoundNode self.now.given.now self.now.profile.now node.now totals.new.kept totals.new.worths
+            totals.new.overlaps }
+        ensures small { AreSmall totals.new }
+    {
+        let mut majorants =
+            Majorants::new(&self.given.sums, node.left, node.free.len(), shape);
+        for (ballot, voters) in self.profile.ballots() {
+            let approved = ballot.common(node.free);
+            let before = ballot.common(node.set).len();
+            let majorant = majorants.of_ballot(before, approved.len());
+            totals.add(majorant, approved, voters);
+        }
     }
 }
 
@@ -103,7 +106,8 @@ impl Totals {
     /// Adds the majorant of a ballot that approves these free candidates, once for each of its voters.
     fn add(&mut self, majorant: Majorant, approved: CandSet, voters: u64)
         requires voters { voters ≤ most_voters }
-        requires majorant { IsSmallMajorant majorant }
+        requires majorant { IsSmallMajorant most_given majorant }
+        requires overlap { voters * majorant.overlap ≤ most_overlap }
         requires small { AreSmall self.old }
         ensures kept { self.new.kept ≡ self.old.kept + voters * majorant.kept }
         ensures worths { (n : ℕ) → slice_index self.new.worths n ≡ slice_index self.old.worths n

@@ -28,7 +28,7 @@ use ballot_base::{CandSet, Clones, ThieleRule, Worths};
 use row_multipliers::Node;
 use row_multipliers::multipliers::{self, Effort};
 use std::alloc::Allocator;
-use thiele_bounds::{AGAIN, HitSums, NODE, PriceSearch, Priced, pairs};
+use thiele_bounds::{AGAIN, HitSums, NODE, PairSearch, PriceSearch, Priced, Shape};
 use tie_search::descent::{Narrowing, Plan};
 use tie_walk::Tally;
 
@@ -122,8 +122,6 @@ impl<'a, A: Allocator + Copy> ThieleSearch<'a, A> {
 
     /// Like `eligible`, but by pairs, if they are worth counting: in a long search, if enough seats are left and pairs
     /// help.
-    // Not inlined: its tables take 28 KB of stack, which would lie beside the moving of multipliers.
-    #[inline(never)]
     fn pair_narrowed(&self, node: &Node, least: u128) -> Option<CandSet>
         requires is_node { IsNode self.now.election.m node.now.set node.now.free }
         ensures { Narrows (tally_value self.now) self.now.election.m node.now least result }
@@ -133,13 +131,39 @@ impl<'a, A: Allocator + Copy> ThieleSearch<'a, A> {
         let is_due = is_long && node.left >= fewest_seats(self.values.rule());
         // Counting pairs takes about as long as a round over the rows.
         self.moves.work(u32::from(is_due));
+        if !is_due {
+            return Some(node.free);
+        }
+        uses.note(self.by_majorants(node, least, Shape::Quadratic))
+    }
+
+    /// Whether majorants of either shape show that no completion of the set of a node reaches the value. Only `true` is
+    /// certain.
+    pub(crate) fn falls_short(&self, node: &Node, least: u128) -> bool
+        requires is_node { IsNode self.now.election.m node.now.set node.now.free }
+        ensures { result ≡ true → IsOutOfReach (tally_value self.now) self.now.election.m node.now.set node.now.free
+            node.now.left least }
+    {
+        self.by_majorants(node, least, Shape::Linear).is_none()
+            || self.by_majorants(node, least, Shape::Quadratic).is_none()
+    }
+
+    /// Like `eligible`, but by majorants of a shape, if at least two seats are left.
+    // Not inlined: its tables take 28 KB of stack, which would lie beside the moving of multipliers.
+    #[inline(never)]
+    fn by_majorants(&self, node: &Node, least: u128, shape: Shape) -> Option<CandSet>
+        requires is_node { IsNode self.now.election.m node.now.set node.now.free }
+        ensures { Narrows (tally_value self.now) self.now.election.m node.now least result }
+    {
         match &self.aids.sums {
-            Some(given) if is_due => uses.note(pairs::narrowed(
-                self.values.profile(),
-                given,
-                node,
-                least,
-            )),
+            Some(given) if node.left >= 2 => {
+                let search = PairSearch {
+                    profile: self.values.profile(),
+                    given,
+                    least,
+                };
+                search.narrowed(node, shape)
+            }
             _ => Some(node.free),
         }
     }

@@ -6,7 +6,9 @@ ghost use Rattle.ballot_base.specs.Limits.{most_members};
 ghost use Rattle.tie_walk.specs.Values.{tally_value, thiele_of, Thiele};
 ghost use Rattle.tie_walk.specs.Winners.{best_value};
 ghost use Rattle.tie_walk.specs.Ceilings.{ceiling};
-ghost use Rattle.thiele_search.specs.Steps.Aided.{IsAided, IsMemoryFor};
+ghost use Rattle.row_multipliers.specs.Completions.{Finds};
+ghost use Rattle.tie_search.specs.Steps.Descent.{IsSearchedAt};
+ghost use Rattle.thiele_search.specs.Steps.Aided.{IsAided, IsMemoryFor, IsValued};
 
 use crate::columns::Columns;
 use crate::dominance::Dominance;
@@ -18,7 +20,8 @@ use row_multipliers::{Moves, Node};
 use std::alloc::{AllocError, Allocator, Global};
 use std::cell::Cell;
 use std::marker::Model;
-use thiele_bounds::{HitSums, PAIR_UNITS, Priced};
+use thiele_bounds::{HitSums, Priced};
+use tie_search::descent::GivenUp;
 use tie_search::{Searchable, Tied, WithClones, descent};
 use tie_walk::{Tally, ThieleTally};
 
@@ -71,6 +74,10 @@ fn rows_per_visit(rule: ThieleRule) -> usize
     if rule == ThieleRule::Cc { 8 } else { 32 }
 }
 
+/// The number of sets of a short search. If a search lasts longer, bounds are worth counting that take as long as some
+/// sets. Any number is right.
+const SHORT_SEARCH: u64 = 64;
+
 /// A search among the committees of `k` under a Thiele rule. A value is the score times the common denominator of the
 /// rule's increments. Contracts see the election, the rule and `k`.
 #[derive(Drop)]
@@ -107,7 +114,7 @@ impl<'a, A: Allocator + Copy + Drop> ThieleSearch<'a, A> {
                 dominance: Dominance::of(profile, rule, k),
                 columns: memory.columns,
                 priced: None,
-                sums: HitSums::of(rule, k, PAIR_UNITS),
+                sums: HitSums::for_pairs(rule, k, profile.voters()),
                 uses: Uses::none(),
             },
             values: memory.values,
@@ -184,7 +191,10 @@ impl<'a, A: Allocator + Copy> Searchable for ThieleSearch<'a, A> {
         // party lists took six times as long.
         self.counts_pairs.set(false);
         self.moves.begin();
-        descent::find(self, *node, least)
+        match descent::find_within(self, *node, least, SHORT_SEARCH) {
+            Ok(found) => found,
+            Err(GivenUp) => self.long_find(node, least),
+        }
     }
 
     fn tied(&self, k: u8) -> Option<Tied> {
@@ -192,21 +202,46 @@ impl<'a, A: Allocator + Copy> Searchable for ThieleSearch<'a, A> {
             Some(committee) => self.value(committee),
             None => 0,
         };
-        // If it is known under `cc` that the good committee is the best, hundreds may tie with it. Then winners come
-        // sooner one by one: with 64 popular candidates and 20 seats, the first came after 0.01 s and not up to 5 s.
-        let is_best = least == self.value(CandSet::all(self.m()))
-            || matches!(&self.aids.priced, Some(priced) if priced.show_best);
-        if is_best && self.values.rule() == ThieleRule::Cc {
-            return None;
-        }
-        // All winners took two to three times as long when each was searched for.
         let all = Node {
             set: CandSet::empty(),
             value: self.value(CandSet::empty()),
             free: CandSet::all(self.m()),
             left: k,
         };
+        if self.is_best(least) {
+            // If it is known under `cc` that the good committee is the best, hundreds may tie with it. Then winners
+            // come sooner one by one: with 64 popular candidates and 20 seats, the first came after 0.01 s and not up
+            // to 5 s.
+            if self.values.rule() == ThieleRule::Cc {
+                return None;
+            }
+        } else if self.falls_short(&all, least.saturating_add(1)) {
+            // Prices do not show that no committee is better, so a list of more ties than it can have would not end.
+            return None;
+        }
+        // All winners took two to three times as long when each was searched for.
         self.counts_pairs.set(true);
         Some(descent::list_tied(self, all, least))
+    }
+}
+
+impl<'a, A: Allocator + Copy> ThieleSearch<'a, A> {
+    /// Whether the good committee, which has this value, is known to be the best. Any answer is right.
+    fn is_best(&self, value: u128) -> bool {
+        value == self.value(CandSet::all(self.m()))
+            || matches!(&self.aids.priced, Some(priced) if priced.show_best)
+    }
+
+    /// Like `find`, for a search that is not short. Of grids, designs and graphs, majorants often show at once that
+    /// nothing is to be found.
+    fn long_find(&self, node: &Node, least: u128) -> Option<CandSet>
+        requires node { IsSearchedAt self.now.election.m (IsValued self.now) node.now }
+        ensures { Finds (tally_value self.now) self.now.election.m node.now least result }
+    {
+        if self.falls_short(node, least) {
+            return None;
+        }
+        self.counts_pairs.set(true);
+        descent::find(self, *node, least)
     }
 }

@@ -6,6 +6,7 @@ use Rattle.ballot_base.specs.CandSet.{common_members}
 use Rattle.tie_walk.specs.Values.{thiele_value}
 use Rattle.row_multipliers.specs.Completions.{IsCompletion}
 use Rattle.thiele_bounds.specs.Pairs.{pair_sum, row_sum}
+use Rattle.thiele_bounds.specs.Steps.Units.{most_given}
 use Rattle.thiele_bounds.specs.declared.majorant.Majorant.{Majorant}
 
 -- the sums are what each number of hits gives, times the scale, in units, rounded up or higher
@@ -13,17 +14,26 @@ pub record AreSums (weights : List ℕ) (scale unit : ℕ) (sums : List ℕ) : T
   pub some : 1 ≤ unit
   pub up : (h : ℕ) → h ≤ most_candidates → scale * sum (take h weights) ≤ unit * slice_index sums h
 
--- no number of a majorant is too large
-pub record IsSmallMajorant (majorant : Majorant) : Type 0 where
-  pub kept_small : majorant.kept ≤ 2 ^ 39
-  pub worth_small : majorant.worth ≤ 2 ^ 34
-  pub overlap_small : majorant.overlap ≤ 2 ^ 26
+-- what as many hits as there are candidates give
+abbrev pub most_sum : List ℕ → ℕ
+most_sum sums = slice_index sums most_candidates
+
+-- no number of hits gives too much, and none gives more than all
+pub record AreSmallSums (sums : List ℕ) : Type 0 where
+  pub all_small : most_sum sums ≤ most_given
+  pub none_above : (h : ℕ) → h ≤ most_candidates → slice_index sums h ≤ most_sum sums
+
+-- no number of a majorant is too large beside what all hits give
+pub record IsSmallMajorant (all_give : ℕ) (majorant : Majorant) : Type 0 where
+  pub kept_small : majorant.kept ≤ all_give * 2 ^ 13
+  pub worth_small : majorant.worth ≤ all_give * 2 ^ 8
+  pub overlap_small : majorant.overlap ≤ all_give
 
 -- for up to `most` hits after the first `before`, the majorant is at least the sum of what they and those before give
 pub record IsMajorantOf (sums : List ℕ) (before most : ℕ) (majorant : Majorant) : Type 0 where
   pub bounds : (h : ℕ) → h ≤ most
       → slice_index sums (before + h) + majorant.overlap * (h * h) ≤ majorant.kept + majorant.worth * h
-  pub small : IsSmallMajorant majorant
+  pub small : IsSmallMajorant (most_sum sums) majorant
 
 -- how many pairs there are of the numbers below n, also of a number with itself
 abbrev pub triangle : ℕ → ℕ

@@ -9,9 +9,9 @@ most_units = 2 ^ 40
 abbrev pub most_given : ℕ
 most_given = 2 ^ 46
 
--- in sums for pairs, all hits of a voter give at most this many units
-abbrev pub most_given_to_pairs : ℕ
-most_given_to_pairs = 2 ^ 26
+-- the overlaps of all voters together have at most this many units
+abbrev pub most_overlap : ℕ
+most_overlap = 2 ^ 58
 
 -- all voters together keep at most this many units, and no price is above it
 abbrev pub most_priced : ℕ

@@ -1,6 +1,6 @@
 -- The aids of a search under a Thiele rule.
-use Rattle.std.specs.Prelude.{◌≡◌, ℕ, ◌≤◌, List, slice_index, Option, MatchOption, ⊤}
-use Rattle.ballot_base.specs.Ballots.{IsElection}
+use Rattle.std.specs.Prelude.{◌≡◌, ℕ, ◌*◌, ◌≤◌, List, Option, MatchOption, ⊤}
+use Rattle.ballot_base.specs.Ballots.{IsElection, voter_count}
 use Rattle.ballot_base.specs.Clones.{AreClones}
 use Rattle.ballot_base.specs.Increments.{increments}
 use Rattle.ballot_base.specs.Limits.{most_members}
@@ -8,10 +8,10 @@ use Rattle.tie_walk.specs.Values.{Thiele, tally_value}
 use Rattle.thiele_search.specs.declared.columns.Columns.{Columns}
 use Rattle.thiele_bounds.specs.declared.majorant.HitSums.{HitSums}
 use Rattle.thiele_search.specs.declared.search.Aids.{Aids}
-use Rattle.thiele_bounds.specs.Steps.Units.{most_given_to_pairs}
+use Rattle.thiele_bounds.specs.Steps.Units.{most_overlap}
 use Rattle.thiele_search.specs.Steps.Columns.{AreColumnsOf}
 use Rattle.thiele_search.specs.Steps.Dominance.{IsDominance}
-use Rattle.thiele_bounds.specs.Steps.Paired.{AreSums}
+use Rattle.thiele_bounds.specs.Steps.Paired.{AreSums, most_sum}
 use Rattle.thiele_bounds.specs.Steps.Priced.{IsPriced}
 
 -- the value is that of the set, in an election and under a rule that can be searched
@@ -37,7 +37,7 @@ pub record IsMemoryFor {A : Type 0} (tally : Thiele) (k : ℕ) (columns : Option
 abbrev pub HasSums : Thiele → Option HitSums → Type 0
 HasSums tally sums = MatchOption sums ⊤ (λ given.
     AreSums (increments tally.rule tally.k) given.scale given.unit given.sums
-    × ((h : ℕ) → slice_index given.sums h ≤ most_given_to_pairs))
+    × (voter_count tally.election.rows * most_sum given.sums ≤ most_overlap))
 
 -- the values are those of an election, and the aids are made from this election
 pub record IsAided {A : Type 0} (tally : Thiele) (aids : Aids A) : Type 0 where

@@ -7,8 +7,8 @@ use Rattle.row_multipliers.proofs.CompletionLemmas.{completion-few}
 use Rattle.row_multipliers.proofs.NarrowedLemmas.{narrowed-members}
 use Rattle.tie_walk.proofs.WorthLemmas.{no_total}
 use Rattle.thiele_bounds.proofs.PairBounds.PairNodes.{pairs-pay}
-use Rattle.thiele_bounds.proofs.pairs.narrowed.Goals as goal
-use Rattle.thiele_bounds.proofs.pairs.narrowed.Goals.{After-from, After-from-factor, After-saturating_sub}
+use Rattle.thiele_bounds.proofs.pairs.PairSearch.narrowed.Goals as goal
+use Rattle.thiele_bounds.proofs.pairs.PairSearch.narrowed.Goals.{After-from, After-from-factor, After-saturating_sub}
 
 left-fits : (g : _) (c : After-from-factor g) → c.args.node.now.left ≤ 255
 left-fits g c = search rules
@@ -66,14 +66,14 @@ due-low g c =
 
 pub returns : goal.returns
 returns g c weights sums =
-    let given = c.args.given.now in
-    let e = c.args.profile.now in
+    let given = c.args.self.now.given.now in
+    let e = c.args.self.now.profile.now in
     let node = c.args.node.now in
     let totals = c.add_ballots.new.totals in
     let raise = 2 * c.from-factor.result * c.from.result in
-    narrowed-members (thiele_value weights e.rows) e.m node.set node.free node.left c.args.least (λ n. get_or c.sums.result n 0) c.saturating_sub.result c.requires.size c.requires.is_node
-    (λ committee whole reaches. pairs-pay weights given.scale given.unit e.m e.rows node.set node.free node.left totals.kept totals.worths totals.overlaps c.requires.is_node c.requires.size
-    c.requires.several given.some (c.add_ballots.ensures.totals weights sums) c.args.least c.units.result raise c.units.ensures (raise-enough g (goal.at.returns g c).After-from) c.sums.result c.sums.ensures c.saturating_sub.result
+    narrowed-members (thiele_value weights e.rows) e.m node.set node.free node.left c.args.self.now.least (λ n. get_or c.sums.result n 0) c.saturating_sub.result c.args.self.now.size c.requires.is_node
+    (λ committee whole reaches. pairs-pay weights given.scale given.unit e.m e.rows node.set node.free node.left totals.kept totals.worths totals.overlaps c.requires.is_node c.args.self.now.size
+    c.requires.several given.some (c.add_ballots.ensures.totals weights sums) c.args.self.now.least c.units.result raise c.units.ensures (raise-enough g (goal.at.returns g c).After-from) c.sums.result c.sums.ensures c.saturating_sub.result
     (due-low g (goal.at.returns g c).After-saturating_sub) committee whole reaches)
     c.members_for.result c.members_for.ensures
 
@@ -100,7 +100,7 @@ returns-then-len-node g c weights are committee whole =
     let node = c.args.node.now in
     absurd (omega (
       arith,
-      completion-few c.args.profile.now.m node.set node.free node.left committee c.requires.is_node whole,
+      completion-few c.args.self.now.profile.now.m node.set node.free node.left committee c.requires.is_node whole,
       c.len.ensures.count,
       c.if-len-node.true,
     ))
