@@ -6,8 +6,8 @@
 //! set is worth more than what all keep and the prices of the candidates that join (`laws::prices`; Fisher, The
 //! Lagrangian relaxation method for solving integer programming problems, 1981).
 //!
-//! The multipliers are moved (`row_multipliers::multipliers`). With prices of the whole election only, five parties with
-//! noise, 64 candidates and 10 seats took 8 s and not 0.8 s under `pav`.
+//! The multipliers are moved (`row_multipliers::multipliers`). With prices of the whole election only, five parties
+//! with noise, 64 candidates and 10 seats took 8 s and not 0.8 s under `pav`.
 ghost use Rattle.std.specs.Prelude.{◌≡◌, ℕ, ◌+◌, ◌*◌, ◌≤◌, List, [], slice_index, MatchOption, ⊤};
 ghost use Rattle.ballot_base.specs.Limits.{most_candidates, most_members};
 ghost use Rattle.ballot_base.specs.Increments.{increments};

@@ -6,9 +6,9 @@
 //!
 //! If enough seats are left, a bound by pairs of candidates comes before the gains as well (`thiele_bounds::pairs`). It
 //! counts a voter who approves two members less than twice. Then come prices of the node itself, whose multipliers are
-//! moved (`row_multipliers::multipliers`). Pairs shorten elections whose ballots were drawn independently, and prices those
-//! whose ballots have structure. A search begins without both, since a short one ends sooner without them. Each is left
-//! out again if it does not pay (module `trials`, `row_multipliers::moves`).
+//! moved (`row_multipliers::multipliers`). Pairs shorten elections whose ballots were drawn independently, and prices
+//! those whose ballots have structure. A search begins without both, since a short one ends sooner without them. Each
+//! is left out again if it does not pay (module `trials`, `row_multipliers::moves`).
 ghost use Rattle.std.specs.Prelude.{◌≡◌, ℕ, ◌≤◌, true, false, IsTrue, slice_index};
 ghost use Rattle.ballot_base.specs.CandSet.{has_member};
 ghost use Rattle.ballot_base.specs.Lists.{IsIncreasing};

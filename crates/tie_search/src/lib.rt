@@ -1,8 +1,8 @@
 //! Winners by search.
 //!
 //! `Searchable` is what can be searched. Its `find` returns a committee of at least a given value, which consists of a
-//! set and some of the free candidates. Two crates implement it: `thiele_search` for Thiele's rules, and `minimax_search`
-//! for minimax approval voting.
+//! set and some of the free candidates. Two crates implement it: `thiele_search` for Thiele's rules, and
+//! `minimax_search` for minimax approval voting.
 //!
 //! `SearchWinners` lists the winners. It asks a search for each of them, so it goes only where a winner is. A walk over
 //! plain bounds enters a prefix in vain if its bound reaches the highest value and no committee below it does.

@@ -108,7 +108,8 @@ fn different_ballots(rt: &impl Abort, alloc: Global, voters: u32) -> String {
     file
 }
 
-/// Rules, a number of those voters, the line of the score of two seats, and the last candidate who wins beside 1 and all after 1.
+/// Rules, a number of those voters, the line of the score of two seats, and the last candidate who wins beside 1, as
+/// all from 2 on do.
 static OF_DIFFERENT_BALLOTS: [(&str, u32, &str, u8); 10] = [
     // Half of the voters approve 2, and also each of the next two or three.
     ("av", 9_000, "score 13500/1\n", 4),

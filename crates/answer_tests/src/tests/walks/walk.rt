@@ -83,8 +83,8 @@ fn walks_over_small_elections(rt: HostRuntime) {
     }
 }
 
-/// Two voters approve 1, 2 and 3, and one voter only 3. For two seats, a third hit adds nothing: not to the value of all
-/// three, and not to the bound of 1 and 2 with 3.
+/// Two voters approve 1, 2 and 3, and one voter only 3. For two seats, a third hit adds nothing: not to the value of
+/// all three, and not to the bound of 1 and 2 with 3.
 #[test]
 fn approvals_past_the_last_seat(rt: HostRuntime) {
     let profile = election_of(&rt, rt.alloc(), 3, &[(0b111, 2), (0b100, 1)]);

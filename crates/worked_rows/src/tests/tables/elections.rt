@@ -93,7 +93,11 @@ elect --rule av --size 40 --limit 1 | rule av¶size 40¶score 40/1¶[1..40]¶mor
 elect --rule av --size 4 --limit 1 --after 1,2,3,64 | rule av¶size 4¶score 4/1¶1,2,4,5¶more
 // A walk over all 137,846,528,820 committees would not end.
 < # DATA TYPE: cat¶# NUMBER ALTERNATIVES: 40¶1: {[1..20]}¶
-elect --rule av --size 20 | rule av¶size 20¶score 20/1¶[1..20]¶end";
+elect --rule av --size 20 | rule av¶size 20¶score 20/1¶[1..20]¶end
+// A grid: voters approve a row or a column. Each row and each column has three or four members, and nothing is better.
+// A search that does not count this at once takes a minute.
+< # DATA TYPE: cat¶# NUMBER ALTERNATIVES: 42¶1: {[1..7]}¶1: {[8..14]}¶1: {[15..21]}¶1: {[22..28]}¶1: {[29..35]}¶1: {[36..42]}¶1: {1,8,15,22,29,36}¶1: {2,9,16,23,30,37}¶1: {3,10,17,24,31,38}¶1: {4,11,18,25,32,39}¶1: {5,12,19,26,33,40}¶1: {6,13,20,27,34,41}¶1: {7,14,21,28,35,42}¶
+elect --rule pav --size 23 --limit 1 | rule pav¶size 23¶score 136979022180/5354228880¶1,2,3,4,8,9,10,11,15,16,17,18,22,26,27,28,30,33,34,35,40,41,42¶more";
 
 #[test]
 fn winners_and_scores(rt: HostRuntime) {
