@@ -1,5 +1,5 @@
 -- Each definition, computed on a small example.
-use Rattle.std.proofs.Common.{◌≡◌, ℕ, ◌+◌, ◌*◌, ◌^◌, ◌≤◌, ◌==◌, ◌||◌, ◌∙◌, Bool, List, [], ◌∷◌, true, false, refl, ap, inl, inr, lit≤, Some, None, get_or, replicate, sum_by, arith}
+use Rattle.std.proofs.Common.{◌≡◌, ℕ, ◌+◌, ◌*◌, ◌^◌, ◌<◌, ◌≤◌, ◌==◌, ◌||◌, ◌∙◌, Bool, List, [], ◌∷◌, true, false, refl, ap, inl, inr, lit≤, lit<, Some, None, get_or, replicate, sum_by, arith}
 use Rattle.std.proofs.lemmas.Bool.{cases_eq, ne_eqb}
 use Rattle.ballot_base.specs.Lists.{IsIncreasing, lists_of, increasing_lists, is_committee, is_later, IsLater, AreInOrder, later_than}
 use Rattle.ballot_base.specs.CandSet.{has_member, with_member, without_member, common_members, either_members, other_members, members_upto, includes}
@@ -8,7 +8,7 @@ use Rattle.ballot_base.specs.Steps.Subsets.{lists_from, sets_from, MayComeNext, 
 use Rattle.ballot_base.specs.Ballots.{Row, IsElection, election, ballots_of, name_of, some_name, hits, voter_count, has_ballot, with_votes}
 use Rattle.ballot_base.specs.CommonMultiple.{least_multiple, common_multiple, AllDivide}
 use Rattle.ballot_base.specs.Increments.{increment, denominator, increments}
-use Rattle.ballot_base.specs.Worths.{AreChosen, AreTooLow, AreWanted}
+use Rattle.ballot_base.specs.Worths.{AreChosen, AreTooLow, AreWanted, IsRanked}
 use Rattle.ballot_base.specs.Hashing.{word_of_bytes, begun, with_word, upper_half}
 use Rattle.ballot_base.specs.declared.increments.ThieleRule.TheVariants.{Av, Pav, Cc, Geom2, Geom3, Geom4}
 use Rattle.ballot_base.proofs.Committees.{increasing_lists-order}
@@ -307,6 +307,16 @@ three = 1 ∷ 2 ∷ 3 ∷ []
 
 increasing-three : IsIncreasing 1 64 three
 increasing-three = (lit≤ tt, lit≤ tt, (lit≤ tt, lit≤ tt, (lit≤ tt, lit≤ tt, tt)))
+
+-- the second highest worth is 3, and neither 5 nor 2
+second-is-three : IsRanked worth three 2 3
+second-is-three = (lit< tt, lit≤ tt)
+
+second-is-not-five : IsRanked worth three 2 5 → ⊥
+second-is-not-five is = let two : 2 ≤ 1 = is.1 in omega (arith, two)
+
+second-is-not-two : IsRanked worth three 2 2 → ⊥
+second-is-not-two is = let fewer : 2 < 2 = is.0 in omega (arith, fewer)
 
 -- any two of them are worth at most 8
 two-at-most : AreTooLow worth three 2 9

@@ -26,6 +26,12 @@ pub record AreWanted (worth : ℕ → ℕ) (candidates : List ℕ) (size due : �
 abbrev pub reaching : (ℕ → ℕ) → ℕ → List ℕ → ℕ
 reaching worth least candidates = length (filter (λ n. nat_le least (worth n)) candidates)
 
+-- `value` is the `rank`-th highest worth of the candidates: fewer of them are worth more, and this many are worth at
+-- least as much
+abbrev pub IsRanked : (ℕ → ℕ) → List ℕ → ℕ → ℕ → Type 0
+IsRanked worth candidates rank value =
+    (reaching worth (value + 1) candidates < rank) × (rank ≤ reaching worth value candidates)
+
 -- at least `left` of the candidates are worth the threshold or more, and at most `left` are worth more
 abbrev pub IsThreshold : (ℕ → ℕ) → List ℕ → ℕ → ℕ → Type 0
 IsThreshold worth candidates left threshold =
