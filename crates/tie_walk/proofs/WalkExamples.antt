@@ -3,7 +3,7 @@
 use Rattle.std.specs.Borrow.{Bor}
 use Rattle.std.proofs.Common.{sym, ◌≡◌, ℕ, ◌+◌, ◌*◌, List, [], ◌∷◌, true, false, refl, lit≤, lit<, Some, None, sum}
 use Rattle.ballot_base.specs.Lists.{lists_of}
-use Rattle.tie_walk.specs.Steps.Walks.{committees_below, committees_after, committees_from, IsPlace, IsPast, work_left, those_reaching, open_below, open_after, open_from, Progress, IsStride, is_alive, waits_at, waits_after, waits_from, IsWait, IsBegun, IsCounted, IsWalk, IsWinning, aim, aim_at, progress}
+use Rattle.tie_walk.specs.Steps.Walks.{committees_below, committees_after, committees_from, IsPlace, IsPast, work_left, those_reaching, open_below, open_after, open_from, Progress, IsStride, is_alive, waits_at, waits_after, waits_from, IsWait, IsBegun, IsCounted, IsWalk, IsWinning, aim, aim_at, asks, progress}
 use Rattle.tie_walk.specs.declared.walk.Prefix.{Prefix}
 use Rattle.tie_walk.specs.declared.walk.Walk.{Walk}
 
@@ -139,6 +139,15 @@ module _ (three : Bor ℕ) (is : three.now ≡ 3) where
   winning_pairs : IsWinning (λ m. m) (λ m. bound_of_three) None first_walk
   unfolding first_walk first_with_one
   winning_pairs = record { walk_is = walk_of_pairs; counted = counted_with_one }
+
+  -- of three candidates two can join the empty set, but none of those after 2 makes two
+  asks_at_root : asks first_walk (record { c = 0; set = [] }) ≡ true
+  unfolding first_walk
+  asks_at_root = refl
+
+  asks_nobody : asks first_walk (record { c = 2; set = [] }) ≡ false
+  unfolding first_walk
+  asks_nobody = refl
 
   second_walk : Walk ℕ
   second_walk = record first_walk { place = Some without_one; ceilings = 2 }

@@ -20,7 +20,7 @@ pub(crate) fn greatest_value<T: Tally>(tally: &T, k: u8) -> u128
     let bound = tally.bound(0, CandSet::empty(), k);
     let mut walk = Walk::begin(tally, k, best, &None);
     while best < bound {
-        walk.best = best + 1;
+        walk.raise(best + 1);
         let Some(committee) = walk.next() else { break };
         best = tally.value(committee);
     }

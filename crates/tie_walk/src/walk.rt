@@ -7,7 +7,7 @@ ghost use Rattle.std.specs.Prelude.{◌≡◌, ◌+◌, ◌^◌, ◌<◌, ◌≤
 ghost use Rattle.ballot_base.specs.Limits.{most_candidates};
 ghost use Rattle.ballot_base.specs.Lists.{IsIncreasing};
 ghost use Rattle.tie_walk.specs.Steps.Walks.{IsBegun, IsPast, IsPlace, IsStride, IsWalk, HasNone};
-ghost use Rattle.tie_walk.specs.Steps.Walks.{aim, aim_at, opens, progress, work_left};
+ghost use Rattle.tie_walk.specs.Steps.Walks.{aim, aim_at, asks, opens, progress, work_left};
 ghost use Rattle.tie_walk.specs.Winners.{IsStart};
 
 use crate::tally::Tally;
@@ -47,11 +47,11 @@ pub(crate) struct Walk<'a, T: Tally> {
     tally: &'a T,
     m: u8,
     k: u8,
-    pub(crate) best: u128,
-    pub(crate) place: Option<Prefix>,
+    best: u128,
+    place: Option<Prefix>,
     // How many prefixes the walk has entered, and how many bounds it has asked for.
-    pub(crate) entered: u128,
-    pub(crate) ceilings: u128,
+    entered: u128,
+    ceilings: u128,
 }
 
 impl<'a, T: Tally> Walk<'a, T> {
@@ -93,6 +93,37 @@ impl<'a, T: Tally> Walk<'a, T> {
         walk
     }
 
+    /// The value that the committees must reach.
+    pub(crate) fn best(&self) -> u128
+        ensures { result ≡ self.now.best }
+    {
+        self.best
+    }
+
+    /// From here on, committees must reach this value.
+    pub(crate) fn raise(&mut self, best: u128)
+        requires walk { IsWalk T.candidates self.old }
+        ensures walk { IsWalk T.candidates self.new }
+        ensures aim { aim self.new ≡ aim_at self.old.tally.now self.old.m self.old.k best }
+        ensures progress { progress self.new ≡ progress self.old }
+    {
+        self.best = best;
+    }
+
+    /// The number of prefixes that the walk has entered.
+    pub(crate) fn entered(&self) -> u128
+        ensures { result ≡ self.now.entered }
+    {
+        self.entered
+    }
+
+    /// The number of bounds that the walk has asked for.
+    pub(crate) fn ceilings(&self) -> u128
+        ensures { result ≡ self.now.ceilings }
+    {
+        self.ceilings
+    }
+
     /// Whether the walk enters a prefix: the prefix can become a committee, and its bound reaches the best value. Only
     /// this step of the walk goes down, asks for a bound, and raises the counts.
     fn enter(&mut self, prefix: &Prefix) -> bool
@@ -105,6 +136,7 @@ impl<'a, T: Tally> Walk<'a, T> {
         ensures entered { self.new.entered ≡ self.old.entered + (if result then 1 else 0) }
         ensures asked { self.old.ceilings ≤ self.new.ceilings }
         ensures once { self.new.ceilings ≤ self.old.ceilings + 1 }
+        ensures asks { self.new.ceilings ≡ self.old.ceilings + (if asks self.old prefix.now then 1 else 0) }
         ensures none { result ≡ false → HasNone T.value_of self.old prefix.now }
     {
         let left = self.k - prefix.set.len();

@@ -73,7 +73,7 @@ impl<'a, T: Tally> Winners<'a, T> {
     pub fn best(&self) -> u128
         ensures { result ≡ self.now.best }
     {
-        self.walk.best
+        self.walk.best()
     }
 
     /// The number of prefixes that the walk to the winners has entered so far. A prefix is a decision on the first
@@ -85,7 +85,7 @@ impl<'a, T: Tally> Winners<'a, T> {
         ensures most { result ≤ live_count (T.bound_of self.now.tally) self.now.m self.now.k self.now.best
             self.now.after + self.now.m }
     {
-        self.walk.entered
+        self.walk.entered()
     }
 
     /// The number of bounds that the walk to the winners has asked for so far. It asks for one at each prefix at which
@@ -95,7 +95,7 @@ impl<'a, T: Tally> Winners<'a, T> {
         ensures count { result ≡ self.now.ceilings }
         ensures entered { self.now.entered ≤ result }
     {
-        self.walk.ceilings
+        self.walk.ceilings()
     }
 }
 

@@ -107,6 +107,10 @@ module _ (value : List ℕ → ℕ) (m k best : ℕ) where
   IsWait from before None rest = rest.ceilings + waits_from rest.place ≤ before.ceilings + waits_from from
   IsWait from before (Some set) rest = rest.ceilings ≤ before.ceilings + waits_from from
 
+-- whether a walk asks for the bound of a prefix: the candidates after it can fill up its set
+abbrev pub asks : {T : Type 0} → Walk T → Prefix → Bool
+asks walk prefix = nat_le walk.k (length prefix.set + (walk.m - prefix.c))
+
 -- whether a walk may enter a prefix
 abbrev pub opens : {T : Type 0} → (T → ℕ → List ℕ → ℕ → ℕ) → Walk T → Prefix → Bool
 opens bound walk prefix = is_open (bound walk.tally.now) walk.m walk.k walk.best prefix.c prefix.set

@@ -1,21 +1,31 @@
 use Rattle.std.proofs.lemmas.Grind.{common_steps}
-use Rattle.std.proofs.Common.{◌≡◌, ℕ, ◌+◌, ◌<◌, ◌++◌, List, Option, subst, arith}
+use Rattle.std.proofs.Common.{◌≡◌, ℕ, ◌+◌, ◌<◌, ◌++◌, List, Option, ap, subst, arith, ◌∙◌}
 use Rattle.std.specs.Prelude.{option_to_list}
 use Rattle.ballot_base.specs.Lists.{IsIncreasing, increasing_lists}
-use Rattle.tie_walk.specs.Steps.Walks.{committees_from, those_reaching, IsPlace, Aim}
+use Rattle.tie_walk.specs.Steps.Walks.{committees_from, those_reaching, IsPlace, Aim, Progress, aim, aim_at}
 use Rattle.tie_walk.specs.declared.walk.Prefix.{Prefix}
 use Rattle.tie_walk.specs.Winners.{best_value}
 use Rattle.tie_walk.proofs.BestLemmas.{greatest-good, greatest-found, best-reached}
 use Rattle.tie_walk.proofs.WinnersLemmas.{greatest, greatest-begun, greatest-done}
 use Rattle.tie_walk.proofs.best.greatest_value.Goals as goal
-use Rattle.tie_walk.proofs.best.greatest_value.Goals.{After-next, In-Some}
+use Rattle.tie_walk.proofs.best.greatest_value.Goals.{After-next, After-raise, In-Some}
+
+-- what the walk looks for once its best is raised
+raised : (g : _) (c : After-raise g) → (aim c.raise.new.self ≡ aim_at c.args.tally.now (g.T.Tally.candidates c.args.tally.now) c.args.k (c.loop-best.best + 1)) × (c.raise.new.self.place ≡ c.loop-best.walk.place)
+raised g c = (
+  c.raise.ensures.aim ∙ ap (λ (x : Aim g.row.T.Denot). aim_at x.tally x.m x.k (c.loop-best.best + 1)) c.loop-best.invariant.same,
+  ap (λ (p : Progress). p.place) c.raise.ensures.progress,
+)
 
 -- what the walk passes
 passed : (g : _) (c : After-next g) → those_reaching (g.T.Tally.value_of c.args.tally.now) (c.loop-best.best + 1) (committees_from (g.T.Tally.candidates c.args.tally.now) c.args.k c.loop-best.walk.place)
     ≡ option_to_list c.next.result ++ those_reaching (g.T.Tally.value_of c.args.tally.now) (c.loop-best.best + 1) (committees_from (g.T.Tally.candidates c.args.tally.now) c.args.k c.next.new.self.place)
 passed g c =
-    let over = λ (place : Option Prefix) (x : Aim g.row.T.Denot). those_reaching (g.T.Tally.value_of x.tally) (c.loop-best.best + 1) (committees_from x.m x.k place) in
-    subst (λ (x : Aim g.row.T.Denot). over c.loop-best.walk.place x ≡ option_to_list c.next.result ++ over c.next.new.self.place x) c.loop-best.invariant.same c.next.ensures.stride.next
+    let over = λ (place : Option Prefix) (x : Aim g.row.T.Denot). those_reaching (g.T.Tally.value_of x.tally) x.best (committees_from x.m x.k place) in
+    let sought : Aim g.row.T.Denot = aim_at c.args.tally.now (g.T.Tally.candidates c.args.tally.now) c.args.k (c.loop-best.best + 1) in
+    let is = raised g (goal.at.After-next g c).After-raise in
+    let next = subst (λ (x : Aim g.row.T.Denot). over c.raise.new.self.place x ≡ option_to_list c.next.result ++ over c.next.new.self.place x) is.0 c.next.ensures.stride.next in
+    subst (λ (place : Option Prefix). over place sought ≡ option_to_list c.next.result ++ over c.next.new.self.place sought) is.1 next
 
 -- one more committee above the greatest value so far
 found : (g : _) (c : In-Some g) → IsIncreasing 1 (g.T.Tally.candidates c.args.tally.now) c.in-Some.committee × (c.loop-best.best < g.T.Tally.value_of c.args.tally.now c.in-Some.committee)
