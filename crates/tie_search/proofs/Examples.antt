@@ -7,7 +7,7 @@ use Rattle.ballot_base.specs.Lists.{lists_of}
 use Rattle.tie_walk.specs.Values.{closeness}
 use Rattle.tie_walk.specs.Winners.{best_value, winners}
 use Rattle.tie_search.specs.Alike.{AreClasses, Becomes, done, step}
-use Rattle.tie_search.specs.Asked.{Asked, IsNextAsked, beginnings, begins_some}
+use Rattle.tie_search.specs.Asked.{Asked, IsNextAsked, beginnings, begins_some, most_questions}
 use Rattle.tie_search.specs.Steps.Branches.{AreStacked, IsBranch, branches_after, completes, entries, first_branches, left_by, longer_beginnings, to_enter, winners_of}
 use Rattle.tie_search.specs.declared.branch.Branch.{Branch}
 use Rattle.tie_search.specs.Tied.{AreBest, AreDistinct, AreTied, IsAmong, IsBest}
@@ -235,7 +235,12 @@ after_winner = record { search = 3; k = 2; after = None; left = []; entered = 2;
 
 winner_asked : IsNextAsked ℕ (λ m set. sum set) (λ m. m) before_winner (Some (2 ∷ 3 ∷ [])) after_winner
 unfolding before_winner after_winner
-winner_asked = record { first = refl; same_search = refl; same_k = refl; same_start = refl; entered_rises = lit≤ tt; all_entered = λ none. absurd cc; short_wait = lit≤ tt }
+winner_asked = record { first = refl; same_search = refl; same_k = refl; same_start = refl; entered_rises = lit≤ tt; all_entered = λ none. absurd cc; questions_rise = lit≤ tt; short_wait = lit≤ tt }
+
+-- at most five questions for the winner, and two more at the end
+seven_questions : most_questions 3 2 (winners sum 3 2) ≡ 7
+unfolding lists_of
+seven_questions = refl
 
 -- 2, and 2 and 3, begin the winner
 two_begin : beginnings 3 2 (winners sum 3 2) ≡ 2

@@ -222,8 +222,15 @@ begun-from value m k None asking some seats high start are entered asked found =
         let entry : entries value m k all ≡ beginnings m k (winners value m k) = ap (λ l. longer_beginnings m k 0 l) (all-winners value m k) ∙ longer-all m k (winners value m k) in
         omega (arith, entered, entry, ap (to_enter value m k) are)
 
+    left : left_by value m k asking.branches.items ≡ winners value m k
+    left = rw are (all-winners value m k)
+
     counted : IsCounted value m k None asking
-    counted = record { most = omega (arith, count); all = λ none. count }
+    counted = record {
+      most = omega (arith, count);
+      all = λ none. count;
+      few = omega (arith, asked, some, ap (λ (bs : List Branch). length bs) are, ap (λ l. (m + k) * length l) left);
+    }
 begun-from value m k (Some set) asking some seats high start are entered asked found = record {
   asking_is = record {
     found_is = found;
@@ -244,4 +251,5 @@ begun-from value m k (Some set) asking some seats high start are entered asked f
     counted = record {
       most = omega (arith, entered, ap (to_enter value m k) are, after-most m k value [] set start.0 start.1, ap (longer_beginnings m k 0) left, longer-all m k (later_than (Some set) (winners value m k)));
       all = λ none. absurd cc;
+      few = omega (arith, asked, ap (λ (bs : List Branch). length bs) are, after-length m [] set, start.1, ap (λ l. (m + k) * length l) (ap (left_by value m k) are ∙ left));
     }

@@ -1,5 +1,5 @@
 -- What contracts see of winners that a search finds one by one.
-use Rattle.std.specs.Prelude.{◌≡◌, ℕ, ◌+◌, ◌≤◌, Bool, List, Option, None, filter, length, sum_by, take}
+use Rattle.std.specs.Prelude.{◌≡◌, ℕ, ◌+◌, ◌*◌, ◌≤◌, Bool, List, Option, None, filter, length, sum_by, take}
 use Rattle.std.specs.Iterator.{YieldsFirst}
 use Rattle.std.specs.List.{list_any, range_with_len}
 use Rattle.std.specs.Str.{bytes_eq}
@@ -14,6 +14,10 @@ begins_some committees list = list_any (λ committee. bytes_eq (take (length lis
 abbrev pub beginnings : ℕ → ℕ → List (List ℕ) → ℕ
 beginnings m k committees =
     sum_by (λ size. length (filter (begins_some committees) (increasing_lists 1 m size))) (range_with_len 1 k)
+
+-- an upper bound on the number of questions for these winners: m + k for each of them, and k more at the end
+abbrev pub most_questions : ℕ → ℕ → List (List ℕ) → ℕ
+most_questions m k winners = (m + k) * length winners + k
 
 -- the search, the size of a committee, the start, the winners still to come, and how many sets were entered and
 -- questions asked so far
@@ -37,5 +41,6 @@ pub record IsNextAsked (S : Type 0) (value : S → List ℕ → ℕ) (candidates
   -- at the end, if there was no start, the sets that were entered are those that begin a winner
   pub all_entered : winner ≡ None → to.after ≡ None
       → to.entered ≡ beginnings (candidates to.search) to.k (winners (value to.search) (candidates to.search) to.k)
+  pub questions_rise : from.questions ≤ to.questions
   -- no more questions than there are candidates and seats
   pub short_wait : to.questions ≤ from.questions + candidates from.search + from.k

@@ -7,10 +7,11 @@
 //!
 //! The clones can leave as well: in a winner with one of them, the candidate could take its place
 //! (`proofs/BranchLemmas.antt`).
-ghost use Rattle.std.specs.Prelude.{◌≡◌, ◌+◌, ◌≤◌, ◌∷◌, [], MatchOption, ⊤, length};
+ghost use Rattle.std.specs.Prelude.{◌≡◌, ◌+◌, ◌≤◌, ◌∷◌, [], None, MatchOption, ⊤, length, option_to_list};
 ghost use Rattle.ballot_base.specs.Limits.{most_candidates};
 ghost use Rattle.ballot_base.specs.Lists.{IsIncreasing};
-ghost use Rattle.tie_search.specs.Steps.Branches.{IsAskingIn, IsOnTheWayIn, IsStepFrom, KnowsBest, first_branches};
+ghost use Rattle.tie_search.specs.Steps.Branches.{AreAskedIn, IsAskingIn, IsOnTheWayIn, IsStepFrom, IsStepIn};
+ghost use Rattle.tie_search.specs.Steps.Branches.{KnowsBest, first_branches};
 
 use crate::best::Best;
 use crate::branch::Branch;
@@ -21,22 +22,73 @@ use ballot_base::{CandSet, PLACES};
 /// The committees with the highest value that are still to come.
 #[derive(Drop)]
 pub(crate) struct Asking {
-    pub(crate) branches: ArrayVec<Branch, PLACES>,
+    branches: ArrayVec<Branch, PLACES>,
     // The committee with the highest value that was found last.
-    pub(crate) found: CandSet,
+    found: CandSet,
     // The number of sets that were entered.
-    pub(crate) entered: u128,
+    entered: u128,
     // The number of searches for a winner.
-    pub(crate) asked: u128,
+    asked: u128,
 }
 
 impl Asking {
+    /// The winners later than the start, or all winners if there is no start. `found` is one of the winners. Nothing was
+    /// asked yet.
+    pub(crate) fn begin(after: &Option<CandSet>, m: u8, found: CandSet) -> Asking
+        requires most { m ≤ most_candidates }
+        requires start { MatchOption after.now ⊤ (IsIncreasing 1 m) }
+        ensures branches { result.branches.items ≡ first_branches m after.now }
+        ensures found { result.found ≡ found }
+        ensures entered { result.entered ≡ 0 }
+        ensures asked { result.asked ≡ 0 }
+    {
+        Asking {
+            branches: first_branches(after, m),
+            found,
+            entered: 0,
+            asked: 0,
+        }
+    }
+
+    /// The number of sets that were entered.
+    pub(crate) fn entered(&self) -> u128
+        ensures { result ≡ self.now.entered }
+    {
+        self.entered
+    }
+
+    /// The number of searches for a winner.
+    pub(crate) fn asked(&self) -> u128
+        ensures { result ≡ self.now.asked }
+    {
+        self.asked
+    }
+
+    /// The first of the winners still to come, or `None` if none is left.
+    pub(crate) fn next<S: Searchable>(&mut self, best: &Best<S>) -> Option<CandSet>
+        requires knows { KnowsBest S.value_of S.class_of S.candidates best.now }
+        requires asking { IsAskingIn S.value_of S.candidates best.now self.old }
+        ensures asking { IsAskingIn S.value_of S.candidates best.now self.new }
+        ensures step { IsStepIn S.value_of S.candidates best.now self.old (option_to_list result) self.new }
+        ensures end { result ≡ None → self.new.branches.items ≡ [] }
+        ensures asked { AreAskedIn S.candidates best.now self.old (option_to_list result) self.new }
+    {
+        while let Some(branch) = self.branches.pop() {
+            if let Some(winner) = best.ask(&branch, self.found, &mut self.asked) {
+                self.found = winner;
+                return Some(self.first_of(best, branch));
+            }
+        }
+        None
+    }
+
     /// The first winner that completes a branch. The winner that was found last must complete it.
-    pub(crate) fn first_of<S: Searchable>(&mut self, best: &Best<S>, mut branch: Branch) -> CandSet
+    fn first_of<S: Searchable>(&mut self, best: &Best<S>, mut branch: Branch) -> CandSet
         requires knows { KnowsBest S.value_of S.class_of S.candidates best.now }
         requires way { IsOnTheWayIn S.value_of S.candidates best.now self.old branch }
         ensures asking { IsAskingIn S.value_of S.candidates best.now self.new }
         ensures step { IsStepFrom S.value_of S.candidates best.now self.old branch (result ∷ []) self.new }
+        ensures rises { self.old.asked ≤ self.new.asked }
         ensures asked { self.new.asked ≤ self.old.asked + length branch.free }
     {
         while branch.set.len() < best.k {
@@ -64,7 +116,7 @@ impl Asking {
 }
 
 /// The branches that exactly the committees later than the start complete, or all committees if there is no start.
-pub(crate) fn first_branches(after: &Option<CandSet>, m: u8) -> ArrayVec<Branch, PLACES>
+fn first_branches(after: &Option<CandSet>, m: u8) -> ArrayVec<Branch, PLACES>
     requires most { m ≤ most_candidates }
     requires start { MatchOption after.now ⊤ (IsIncreasing 1 m) }
     ensures { result.items ≡ first_branches m after.now }

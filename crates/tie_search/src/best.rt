@@ -39,6 +39,7 @@ impl<S: Searchable> Best<S> {
         requires branch { IsBranchIn S.candidates self.now branch.now }
         requires found { IsBestIn S.value_of S.candidates self.now found }
         ensures answer { IsAnswerIn S.value_of S.candidates self.now branch.now result }
+        ensures rises { asked.old ≤ asked.new }
         ensures asked { asked.new ≤ asked.old + 1 }
     {
         if branch.set.len() + branch.free.len() < self.k {

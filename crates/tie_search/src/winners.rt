@@ -6,10 +6,10 @@ ghost use Rattle.std.specs.Prelude.{◌≡◌, ◌≤◌};
 ghost use Rattle.std.specs.Iterator.{item_count};
 ghost use Rattle.ballot_base.specs.Lists.{later_than};
 ghost use Rattle.tie_walk.specs.Winners.{IsStart, best_value, winners};
-ghost use Rattle.tie_search.specs.Asked.{Asked, IsNextAsked, beginnings};
+ghost use Rattle.tie_search.specs.Asked.{Asked, IsNextAsked, beginnings, most_questions};
 ghost use Rattle.tie_search.specs.Steps.Branches.{IsListing, left_by};
 
-use crate::asking::{Asking, first_branches};
+use crate::asking::Asking;
 use crate::best::{Best, best_committees};
 use crate::searchable::Searchable;
 use ballot_base::CandSet;
@@ -59,12 +59,7 @@ impl<S: Searchable> SearchWinners<S> {
         let tied = best_committees(&search, k);
         let found = tied.committees[0];
         SearchWinners {
-            asking: Asking {
-                branches: first_branches(&after, m),
-                found,
-                entered: 0,
-                asked: 0,
-            },
+            asking: Asking::begin(&after, m, found),
             best: Best {
                 value: search.value(found),
                 search,
@@ -90,15 +85,17 @@ impl<S: Searchable> SearchWinners<S> {
         ensures most { result ≤ beginnings (S.candidates self.now.search) self.now.k (later_than self.now.after
             (winners (S.value_of self.now.search) (S.candidates self.now.search) self.now.k)) }
     {
-        self.asking.entered
+        self.asking.entered()
     }
 
     /// The number of questions that were asked so far for the winners: the calls of `Searchable::find`, except those
-    /// that found the highest value.
+    /// that found the highest value. There are at most m + k for each winner and k more, for m candidates.
     pub fn questions(&self) -> u128
-        ensures { result ≡ self.now.questions }
+        ensures count { result ≡ self.now.questions }
+        ensures most { result ≤ most_questions (S.candidates self.now.search) self.now.k (later_than self.now.after
+            (winners (S.value_of self.now.search) (S.candidates self.now.search) self.now.k)) }
     {
-        self.asking.asked
+        self.asking.asked()
     }
 }
 
@@ -111,13 +108,6 @@ impl<S: Searchable + Drop> Iterator for SearchWinners<S> {
     ghost remaining = { item_count (λ (a : Asked S). a.left) };
 
     fn next(&mut self) -> Option<CandSet> {
-        let asking = &mut self.asking;
-        while let Some(branch) = asking.branches.pop() {
-            if let Some(winner) = self.best.ask(&branch, asking.found, &mut asking.asked) {
-                asking.found = winner;
-                return Some(asking.first_of(&self.best, branch));
-            }
-        }
-        None
+        self.asking.next(&self.best)
     }
 }

@@ -1,12 +1,12 @@
 -- Branches: sets that committees may begin with, and the candidates that may still join them. A stack has the branches
 -- that the winners still to come complete.
-use Rattle.std.specs.Prelude.{◌≡◌, ℕ, ◌+◌, ◌-◌, ◌^◌, ◌<◌, ◌≤◌, ◌&&◌, Bool, true, List, [], ◌∷◌, ◌++◌, Option, None, Some, ⊤, length, filter, sum_by, MatchOption}
+use Rattle.std.specs.Prelude.{◌≡◌, ℕ, ◌+◌, ◌*◌, ◌-◌, ◌^◌, ◌<◌, ◌≤◌, ◌&&◌, Bool, true, List, [], ◌∷◌, ◌++◌, Option, None, Some, ⊤, length, filter, sum_by, MatchOption}
 use Rattle.std.specs.List.{range_with_len}
 use Rattle.ballot_base.specs.CandSet.{either_members, includes}
 use Rattle.ballot_base.specs.Lists.{IsIncreasing, increasing_lists, later_than}
 use Rattle.tie_walk.specs.Winners.{winners}
 use Rattle.tie_search.specs.Alike.{AreClasses, Becomes, HasClasses}
-use Rattle.tie_search.specs.Asked.{beginnings, begins_some}
+use Rattle.tie_search.specs.Asked.{beginnings, begins_some, most_questions}
 use Rattle.tie_search.specs.Tied.{IsBest}
 use Rattle.tie_search.specs.Steps.Searched.{IsSearched}
 use Rattle.tie_search.specs.declared.asking.Asking.{Asking}
@@ -107,6 +107,14 @@ pub record IsStep (value : List ℕ → ℕ) (m k : ℕ) (before : List Branch) 
   pub rises : entered ≤ entered'
   pub counted : entered' + to_enter value m k after ≡ entered + to_enter value m k before
 
+-- How many questions are asked for a step: at most m + k. Those of all steps together are at most m + k for each winner
+-- that is found, and one for each branch of the first stack.
+pub record AreAsked (m k : ℕ) (before : Asking) (found : List (List ℕ)) (after : Asking) : Type 0 where
+  pub rise : before.asked ≤ after.asked
+  pub few : after.asked ≤ before.asked + m + k
+  pub spread : after.asked + length after.branches.items
+      ≤ before.asked + length before.branches.items + (m + k) * length found
+
 -- ---- the same in what is searched, as contracts say it: `value` and `candidates` are those of the search
 
 abbrev pub IsBranchIn : {S : Type 0} → (S → ℕ) → Best S → Branch → Type 0
@@ -130,6 +138,9 @@ IsAskingIn value candidates best = IsAsking (value best.search) (candidates best
 abbrev pub IsOnTheWayIn : {S : Type 0} → (S → List ℕ → ℕ) → (S → ℕ) → Best S → Asking → Branch → Type 0
 IsOnTheWayIn value candidates best = IsOnTheWay (value best.search) (candidates best.search) best.k
 
+abbrev pub AreAskedIn : {S : Type 0} → (S → ℕ) → Best S → Asking → List (List ℕ) → Asking → Type 0
+AreAskedIn candidates best = AreAsked (candidates best.search) best.k
+
 -- a step from all branches
 abbrev pub IsStepIn : {S : Type 0} → (S → List ℕ → ℕ) → (S → ℕ) → Best S → Asking → List (List ℕ) → Asking → Type 0
 IsStepIn value candidates best before found after =
@@ -151,12 +162,14 @@ first_branches m None = record { set = []; free = range_with_len 1 m } ∷ []
 first_branches m (Some start) = branches_after m [] start
 
 -- what is true of the winners after a start: the sets that were entered and those still to be entered begin a later
--- winner, and they are all if there was no start
+-- winner, and they are all if there was no start; and how many questions there can be for those that were found
 pub record IsCounted (value : List ℕ → ℕ) (m k : ℕ) (after : Option (List ℕ)) (asking : Asking) : Type 0 where
   pub most : asking.entered + to_enter value m k asking.branches.items
       ≤ beginnings m k (later_than after (winners value m k))
   pub all : after ≡ None → asking.entered + to_enter value m k asking.branches.items
       ≡ beginnings m k (winners value m k)
+  pub few : asking.asked + length asking.branches.items + (m + k) * length (left_by value m k asking.branches.items)
+      ≤ most_questions m k (later_than after (winners value m k))
 
 -- all winners later than the start are still to come, and nothing was asked yet
 pub record IsBegun (value : List ℕ → ℕ) (m k : ℕ) (after : Option (List ℕ)) (asking : Asking) : Type 0 where

@@ -66,6 +66,7 @@ loop-parts-preserved-in-Some-ask g c =
       };
       step = then-step value m best.k (c.args.self.now.branches.items ++ c.args.branch ∷ []) (items ++ branch ∷ []) ((items ++ passed branch rest ∷ []) ++ joined branch next rest ∷ [])
           c.args.self.now.entered was.entered (was.entered + 1) [] [] c.loop-parts.invariant.step step;
+      rises = omega (arith, c.loop-parts.invariant.rises, c.ask.ensures.rises);
       asked = omega (arith, c.loop-parts.invariant.asked, c.ask.ensures.asked, ap length c.in-Some.ensures);
     }
 
@@ -102,6 +103,7 @@ loop-parts-preserved g c =
       };
       step = then-step value m best.k (c.args.self.now.branches.items ++ c.args.branch ∷ []) (was.branches.items ++ branch ∷ []) (was.branches.items ++ other ∷ [])
           c.args.self.now.entered was.entered was.entered [] [] c.loop-parts.invariant.step step;
+      rises = omega (arith, c.loop-parts.invariant.rises, c.ask.ensures.rises);
       asked = omega (arith, c.loop-parts.invariant.asked, c.ask.ensures.asked, minus-most rest (slice_index_or table next []), ap length c.in-Some.ensures);
     }
 

@@ -9,6 +9,7 @@ invariant-loop-parts g l =
     record {
       way : IsOnTheWay value m l.best.k l.self l.branch;
       step : IsStep value m l.best.k (l.fn.self.branches.items ++ l.fn.branch ∷ []) l.fn.self.entered [] (l.self.branches.items ++ l.branch ∷ []) l.self.entered;
+      rises : l.fn.self.asked ≤ l.self.asked;
       asked : l.self.asked + length l.branch.free ≤ l.fn.self.asked + length l.fn.branch.free;
     }
 

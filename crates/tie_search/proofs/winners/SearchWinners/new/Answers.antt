@@ -1,9 +1,8 @@
 use Rattle.std.proofs.lemmas.List.{get_or_default}
-use Rattle.std.proofs.Common.{◌≡◌, rules, [], arith, get_or, length, refl, ◌∙◌, ap}
+use Rattle.std.proofs.Common.{◌≡◌, rules, [], arith, get_or, length, ◌∙◌, ap}
 use Rattle.tie_search.specs.Tied.{IsBest}
 use Rattle.tie_search.specs.Steps.Branches.{IsBegun, first_branches}
 use Rattle.tie_search.specs.Steps.Searched.{IsSearched}
-use Rattle.tie_search.specs.declared.asking.Asking.{Asking}
 use Rattle.tie_search.proofs.StartLemmas.{begun-from}
 use Rattle.tie_search.proofs.winners.SearchWinners.new.Given.{Over}
 use Rattle.tie_search.proofs.winners.SearchWinners.new.Goals as goal
@@ -17,19 +16,13 @@ first-is g c =
     let long : length committees ≡ 256 = search rules in
     tied.ensures.each first (0, omega (arith, tied.ensures.some), get_or_default committees 0 [] c.index-tied-0.result (omega (arith, long)))
 
--- nothing was asked yet
-asking : (g : Over) (c : After-value g) → Asking
-asking g c = record { branches = c.first_branches.result; found = get_or c.best_committees-tied.result.committees 0 c.index-tied-0.result; entered = 0; asked = 0 }
-
-is-begun : (g : Over) (c : After-value g) → IsBegun (g.S.Tally.value_of c.args.search) (g.S.Tally.candidates c.args.search) c.args.k c.args.after (asking g c)
-unfolding asking
+is-begun : (g : Over) (c : After-value g) → IsBegun (g.S.Tally.value_of c.args.search) (g.S.Tally.candidates c.args.search) c.args.k c.args.after c.begin.result
 is-begun g c =
     let few = rw c.m-m.ensures.value at c.m-m.ensures.most in
-    begun-from (g.S.Tally.value_of c.args.search) (g.S.Tally.candidates c.args.search) c.args.k c.args.after (asking g c) c.requires.some c.requires.fits few c.requires.start
-    (c.first_branches.ensures ∙ ap (λ m. first_branches m c.args.after) c.m-m.ensures.value) refl refl (first-is g c)
+    begun-from (g.S.Tally.value_of c.args.search) (g.S.Tally.candidates c.args.search) c.args.k c.args.after c.begin.result c.requires.some c.requires.fits few c.requires.start
+    (c.begin.ensures.branches ∙ ap (λ m. first_branches m c.args.after) c.m-m.ensures.value) c.begin.ensures.entered c.begin.ensures.asked (rw c.begin.ensures.found (first-is g c))
 
 pub invariant_of-result : goal.invariant_of-result
-unfolding asking
 invariant_of-result g c =
     let is = is-begun g c in
     let knows : IsSearched (g.S.Tally.value_of c.args.search) (g.S.WithClones.class_of c.args.search) (g.S.Tally.candidates c.args.search) c.m-m.result c.args.k c.value.result c.best_committees-tied.result = record {
@@ -43,5 +36,4 @@ invariant_of-result g c =
     record { knows = knows; asking_is = is.asking_is; counted = is.counted }
 
 pub returns-clause-left : goal.returns-clause-left
-unfolding asking
 returns-clause-left g c = (is-begun g c).left
