@@ -56,6 +56,15 @@ parts c = record {
   );
 }
 
+pub overflow_add-result-2 : goal.overflow_add-result-2
+overflow_add-result-2 c = omega (
+  arith,
+  few-small c.from.result c.of.result (omega (arith, c.from.ensures, c.requires.rows.few)) (omega (arith, c.of.ensures.value, c.requires.rows.small.worths_small c.args.i)),
+  c.of-2.ensures.value,
+  c.beside-beside.ensures.small c.args.i,
+  few-small c.from-2.result c.nth_greatest-threshold.result (omega (arith, c.from-2.ensures, c.requires.rows.few)) (c.nth_greatest-threshold.ensures.most (2 ^ 68) c.beside-beside.ensures.small),
+)
+
 pub overflow_add-result-3 : goal.overflow_add-result-3
 overflow_add-result-3 c = let part = parts (goal.at.overflow_add-result-3 c).After-excess in omega (arith, part.own, part.alone, part.thresholds, part.more)
 
