@@ -10,7 +10,7 @@ use Rattle.ballot_base.specs.Clones.{are_clones, clones_among}
 use Rattle.sequential_winners.specs.Clones.{clone_count, has_as_many, is_between}
 use Rattle.sequential_winners.specs.Families.{sequential_of, is_winner, some_winner}
 use Rattle.sequential_winners.specs.Steps.Families.{may_be_in}
-use Rattle.sequential_winners.specs.Steps.Levels.{is_first_open, is_settled, has_settled, ties, tied_worth, next_hit, share_voter, is_near, beginners, shares_no_voter, is_independent, end, chosen, followers, family_changes, other_end}
+use Rattle.sequential_winners.specs.Steps.Levels.{is_first_open, is_settled, has_settled, ties, tied_worth, next_hit, share_voter, is_near, given_share, given, beginners, shares_no_voter, is_independent, end, chosen, followers, family_changes, other_end}
 use Rattle.sequential_winners.specs.Steps.Tables.{completed}
 
 -- of the candidates 1 to 5, three voters approve 1 and 2, and one voter 3; nobody approves 4 and 5
@@ -87,8 +87,14 @@ near_one : (is_near Grow (hit_weights SeqCc 4) around.rows [] 1 1 ≡ true) × (
 unfolding around hit_weights
 near_one = (refl, refl, refl)
 
--- all four tie; 1, 2 or 4 is among the first choices wherever four are made, but 3 may be the only one
-begun : (beginners Grow (hit_weights SeqCc 4) 4 around.rows 4 [] ≡ 1 ∷ 2 ∷ 4 ∷ []) × (beginners Grow (hit_weights SeqCc 4) 4 around.rows 1 [] ≡ 1 ∷ 2 ∷ 3 ∷ 4 ∷ [])
+-- a voter gives once for all candidates that it approves, and a voter who is covered gives nothing
+gives : (given_share Grow (hit_weights SeqCc 4) [] (1 ∷ 2 ∷ []) (1 ∷ 2 ∷ [], 1) ≡ 1) × (given_share Grow (hit_weights SeqCc 4) [] (3 ∷ []) (1 ∷ 2 ∷ [], 1) ≡ 0) × (given Grow (hit_weights SeqCc 4) around.rows [] (3 ∷ []) ≡ 2) × (given Grow (hit_weights SeqCc 4) around.rows (1 ∷ []) (2 ∷ 4 ∷ []) ≡ 2)
+unfolding around hit_weights
+gives = (refl, refl, refl, refl)
+
+-- All four tie, with a gain of 2. The voters of 3 give 2, once 2 and not twice. So 1, 2 or 4 is among the first choices
+-- if two are made; but 3 may be the only one.
+begun : (beginners Grow (hit_weights SeqCc 4) 4 around.rows 2 [] ≡ 1 ∷ 2 ∷ 4 ∷ []) × (beginners Grow (hit_weights SeqCc 4) 4 around.rows 1 [] ≡ 1 ∷ 2 ∷ 3 ∷ 4 ∷ [])
 unfolding around hit_weights
 begun = (refl, refl)
 

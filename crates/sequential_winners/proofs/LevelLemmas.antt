@@ -1,15 +1,15 @@
 -- The families of a level have exactly the sets that all choices make.
 use Rattle.std.proofs.lemmas.Grind.{common_steps}
-use Rattle.std.proofs.Common.{◌≡◌, ℕ, zero, suc, ◌+◌, ◌-◌, ◌<◌, ◌≤◌, ◌==◌, Option, Some, None, ◌&&◌, ◌∙◌, Bool, true, false, cond, List, [], ◌∷◌, refl, sym, ap, subst, arith, inl, inr, filter, length, Contains}
+use Rattle.std.proofs.Common.{◌≡◌, ℕ, zero, suc, ◌+◌, ◌-◌, ◌*◌, ◌<◌, ◌≤◌, ◌==◌, Option, Some, None, ◌∙◌, Bool, true, false, cond, List, [], ◌∷◌, refl, sym, ap, subst, arith, inl, inr, filter, Contains}
 use Rattle.std.specs.Prelude.{nat_le, nat_lt, slice_index_or}
 use Rattle.std.specs.List.{AllByRecursion}
 use Rattle.std.proofs.lemmas.List.Elements.{recursion_from_All, All-weaker, All-contains_itself}
 use Rattle.std.specs.List.Sorted.{IsStrictlySortedBy}
 use Rattle.std.specs.Cmp.Lexicographic.{slice_cmp}
 use Rattle.std.specs.Ordering.{nat_cmp}
-use Rattle.std.proofs.lemmas.Bool.{cases_Bool, cases_eq, cases_lt, and_parts, le-leb, lt-leb, ltb-true, leb-true, leb-false, eqb-true, eq-eqb, or_right}
+use Rattle.std.proofs.lemmas.Bool.{cases_Bool, cases_eq, cases_lt, le-leb, lt-leb, ltb-true, leb-true, leb-false, eqb-true, eq-eqb, or_right}
 use Rattle.ballot_base.specs.Lists.{IsIncreasing}
-use Rattle.ballot_base.specs.CandSet.{has_member}
+use Rattle.ballot_base.specs.CandSet.{has_member, other_members}
 use Rattle.ballot_base.specs.Ballots.{Row}
 use Rattle.ballot_base.specs.Clones.{are_clones}
 use Rattle.ballot_base.proofs.ListLemmas.{Contains-later, Contains-map, Contains-from_map, Contains-from_flat_map}
@@ -21,13 +21,14 @@ use Rattle.tie_walk.specs.declared.sequential.Step.TheVariants.{Grow, Shrink}
 use Rattle.tie_walk.proofs.Choices.{Contains-flat_map, reached_none}
 use Rattle.tie_walk.proofs.LawLemmas.{IsIncreasing-range}
 use Rattle.tie_walk.proofs.RowSums.{AreBallots}
-use Rattle.sequential_winners.specs.Steps.Levels.{ties, tied_worth, is_near, beginners, end, chosen, followed, followers, family_changes, IsNextFamilies, IsFalling, AllCount, IsReachedBy, LeadsTo, IsPlaced, IsFamilyLevel}
+use Rattle.sequential_winners.specs.Steps.Levels.{ties, tied_worth, given, is_near, beginners, end, chosen, followed, followers, family_changes, IsNextFamilies, IsFalling, AllCount, IsReachedBy, LeadsTo, IsPlaced, IsFamilyLevel}
 use Rattle.sequential_winners.proofs.CloneLemmas.{clones-turned}
 use Rattle.sequential_winners.proofs.Lists.{Contains-only}
 use Rattle.sequential_winners.proofs.Picked.{change-increasing, chosen-change}
 use Rattle.sequential_winners.proofs.Leads.{reached-chosen, chosen-ahead, leads-moved, leads-joined, leads-reached, reached-leads, span-leads, leads-past}
 use Rattle.sequential_winners.proofs.SpanLemmas.{tied-is, tied-open, tied-class, end-span}
 use Rattle.sequential_winners.proofs.PhaseLemmas.{begins-near}
+use Rattle.sequential_winners.proofs.GivenLemmas.{some-factor}
 use Rattle.sequential_winners.proofs.TiedClones.{change-ahead, choice-open}
 
 -- ---- what follows a set
@@ -53,7 +54,7 @@ of-member (y ∷ xs) x inside = elim (cases_eq y x) [
 
 -- who is followed ties
 begins-tied : (step : Step) (weights : List ℕ) (m : ℕ) (rows : List Row) (left : ℕ) (set : List ℕ) (c : ℕ) → has_member (beginners step weights m rows left set) c ≡ true → has_member (ties step weights m rows set) c ≡ true
-begins-tied step weights m rows left set c = by (nat_lt 0 (tied_worth step weights m rows set) && nat_le (length (ties step weights m rows set)) left)
+begins-tied step weights m rows left set c = by (nat_lt (given step weights rows set (other_members (ties step weights m rows set) (filter (is_near step weights rows set (slice_index_or (ties step weights m rows set) 0 0)) (ties step weights m rows set)))) (left * tied_worth step weights m rows set))
   where
     by : (b : Bool) → has_member (cond b (filter (is_near step weights rows set (slice_index_or (ties step weights m rows set) 0 0)) (ties step weights m rows set)) (ties step weights m rows set)) c ≡ true → has_member (ties step weights m rows set) c ≡ true
     by true inside = filter-member (is_near step weights rows set (slice_index_or (ties step weights m rows set) 0 0)) (ties step weights m rows set) c inside
@@ -160,7 +161,7 @@ module _ (step : Step) (weights : List ℕ) (m : ℕ) (rows : List Row) (total :
             let c : ℕ = first.0 in
             let free = choice-open step weights m rows set c first.1 in
             let d = tied-class step weights m rows ballots falls set up c first.1 in
-            let v = begin (nat_lt 0 (tied_worth step weights m rows set) && nat_le (length (ties step weights m rows set)) (total - chosen step m set)) refl d.0 d.1
+            let v = begin (nat_lt far-given ((total - chosen step m set) * tied_worth step weights m rows set)) refl d.0 d.1
             (moved c d.0 free d.1 d.2 first.2) in
             let one = chosen-change step m set v.0 up (tied-open step weights m rows set v.0 (begins-tied step weights m rows (total - chosen step m set) set v.0 v.1)) in
             let i : total - chosen step m set - 1 ≡ total - chosen step m (change step set v.0) = omega (arith, one) in
@@ -177,16 +178,19 @@ module _ (step : Step) (weights : List ℕ) (m : ℕ) (rows : List Row) (total :
                 )
                 rest
 
-            begin : (b : Bool) → (nat_lt 0 (tied_worth step weights m rows set) && nat_le (length (ties step weights m rows set)) (total - chosen step m set)) ≡ b → (d : ℕ) → has_member (ties step weights m rows set) d ≡ true
+            far-given : ℕ
+            far-given = given step weights rows set (other_members (ties step weights m rows set) (filter (is_near step weights rows set (slice_index_or (ties step weights m rows set) 0 0)) (ties step weights m rows set)))
+
+            begin : (b : Bool) → nat_lt far-given ((total - chosen step m set) * tied_worth step weights m rows set) ≡ b → (d : ℕ) → has_member (ties step weights m rows set) d ≡ true
                 → LeadsTo step weights m rows made (total - chosen step m set - 1) (change step set d)
                 → (v : ℕ) × (has_member (cond b (filter (is_near step weights rows set (slice_index_or (ties step weights m rows set) 0 0)) (ties step weights m rows set)) (ties step weights m rows set)) v ≡ true)
                 × LeadsTo step weights m rows made (total - chosen step m set - 1) (change step set v)
             begin false room d tie rest = (d, tie, rest)
             begin true room d tie rest =
-                let parts = and_parts (nat_lt 0 (tied_worth step weights m rows set)) (nat_le (length (ties step weights m rows set)) (total - chosen step m set)) room in
+                let less = ltb-true far-given ((total - chosen step m set) * tied_worth step weights m rows set) room in
                 let u = slice_index_or (ties step weights m rows set) 0 0 in
-                let v = begins-near step weights m rows ballots falls counts all-count set up (ltb-true 0 (tied_worth step weights m rows set) parts.0) u (first-member (ties step weights m rows set) d tie) (total - chosen step m set)
-                (leb-true (length (ties step weights m rows set)) (total - chosen step m set) parts.1) made leads in
+                let v = begins-near step weights m rows ballots falls counts all-count set up (some-factor far-given (total - chosen step m set) (tied_worth step weights m rows set) less) u (first-member (ties step weights m rows set) d tie) (total - chosen step m set)
+                less made leads in
                 (v.0, filter-stays (is_near step weights rows set u) (ties step weights m rows set) v.0 v.1 v.2, v.3)
 
 -- ---- levels

@@ -3,6 +3,7 @@ pub mod CompletionLemmas
 mod Examples
 pub mod ExistLemmas
 pub mod FamilyLemmas
+pub mod GivenLemmas
 pub mod LevelLemmas
 pub mod Lists
 pub mod Numbers

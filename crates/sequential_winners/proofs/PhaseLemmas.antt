@@ -1,14 +1,14 @@
 -- While the best worth stays the same, those who share no voter who still gives are chosen in any order.
-use Rattle.std.proofs.Common.{◌≡◌, ℕ, zero, suc, ◌+◌, ◌-◌, ◌*◌, ◌<◌, ◌≤◌, ◌==◌, ◌&&◌, ◌||◌, ◌⊎◌, ◌∙◌, Bool, true, false, cond, not, List, [], ◌∷◌, refl, sym, ap, subst, arith, inl, inr, length, count_by}
+use Rattle.std.proofs.Common.{◌≡◌, ℕ, zero, suc, ◌+◌, ◌-◌, ◌*◌, ◌<◌, ◌≤◌, ◌==◌, ◌&&◌, ◌||◌, ◌⊎◌, ◌∙◌, Bool, true, false, cond, not, List, [], ◌∷◌, refl, sym, ap, subst, arith, inl, inr, filter, length, count_by}
 use Rattle.std.specs.Prelude.{nat_lt, fold}
 use Rattle.std.specs.List.{AllByRecursion, list_any}
-use Rattle.std.proofs.lemmas.Bool.{cases_Bool, cases_lt, and_parts, and_from, both_ways, eqb-true, eq-eqb, ltb-true, lt-ltb}
+use Rattle.std.proofs.lemmas.Bool.{cases_Bool, cases_lt, and_parts, and_from, both_ways, eqb-true, ltb-true, lt-ltb}
 use Rattle.std.proofs.lemmas.List.Sums.{sum_by-cons}
 use Rattle.ballot_base.specs.Lists.{IsIncreasing}
-use Rattle.ballot_base.specs.CandSet.{has_member, with_member, without_member}
+use Rattle.ballot_base.specs.CandSet.{has_member, with_member, without_member, other_members}
 use Rattle.ballot_base.specs.Ballots.{Row, hits}
 use Rattle.ballot_base.specs.Clones.{are_clones}
-use Rattle.ballot_base.proofs.Increasing.{has_member-with_member}
+use Rattle.ballot_base.proofs.Increasing.{has_member-with_member, has_member-filter}
 use Rattle.tie_walk.specs.Sequences.{weight}
 use Rattle.tie_walk.specs.Steps.Choices.{change, is_choice, is_no_better, open_candidates, worth}
 use Rattle.tie_walk.specs.declared.sequential.Step.{Step}
@@ -16,7 +16,7 @@ use Rattle.tie_walk.specs.declared.sequential.Step.TheVariants.{Grow, Shrink}
 use Rattle.tie_walk.proofs.RowSums.{AreBallots}
 use Rattle.tie_walk.proofs.WorthLemmas.{share, partial, worth-whole}
 use Rattle.sequential_winners.specs.Clones.{clone_count}
-use Rattle.sequential_winners.specs.Steps.Levels.{ties, next_hit, share_voter, picked, tied_worth, IsAhead, IsFalling, AllCount, LeadsTo}
+use Rattle.sequential_winners.specs.Steps.Levels.{ties, next_hit, given, share_voter, picked, tied_worth, IsAhead, IsFalling, AllCount, LeadsTo}
 use Rattle.sequential_winners.proofs.CloneLemmas.{IsWhole, clones-itself, clones-turned, clones-joined, clones-sameness, hits-members}
 use Rattle.sequential_winners.proofs.Lists.{open-is, member-without, with-increasing}
 use Rattle.sequential_winners.proofs.Numbers.{bit, some-passes, member-counts, count-cons, count-class, count-with, count-without, length-sum, count-both}
@@ -25,19 +25,11 @@ use Rattle.sequential_winners.proofs.RowLemmas.{each-row, no-better_given, worse
 use Rattle.sequential_winners.proofs.TiedClones.{no_better-joined, no-better-ahead, open-moves, choice-from, choice-best, choice-open}
 use Rattle.std.proofs.Math.Bool.{and_comm}
 use Rattle.ballot_base.proofs.Committees.{length-increasing}
-use Rattle.ballot_base.proofs.Sums.{length-among}
-use Rattle.sequential_winners.proofs.SpanLemmas.{tied-is, tied-open, tied-increasing, at-most, tied-class, tied-positive, changed-all}
+use Rattle.sequential_winners.proofs.SpanLemmas.{tied-is, tied-open, at-most, tied-class, tied-reaches, tied-positive, changed-all}
 use Rattle.sequential_winners.proofs.Leads.{leads-moved, leads-joined, may-leads}
+use Rattle.sequential_winners.proofs.GivenLemmas.{or-parts, not-equal, apart-given}
 
 -- ---- of lists
-
-or-parts : (a b : Bool) → (a || b) ≡ false → (a ≡ false) × (b ≡ false)
-or-parts false false none = (refl, refl)
-or-parts false true none = absurd (let f : true ≡ false = none in cc)
-or-parts true b none = absurd (let f : true ≡ false = none in cc)
-
-not-equal : (a b : ℕ) → not (a == b) ≡ true → a ≡ b → ⊥
-not-equal a b is same = let f : not true ≡ true = sym (ap not (eq-eqb a b same)) ∙ is in let g : false ≡ true = f in cc
 
 none-each : (P : ℕ → Type 0) (test : ℕ → Row → Bool) (rows : List Row) → ((s : ℕ) → P s → list_any (test s) rows ≡ false) → AllByRecursion (λ (row : Row). (s : ℕ) → P s → test s row ≡ false) rows
 none-each P test [] none = tt
@@ -302,25 +294,31 @@ module _ (step : Step) (weights : List ℕ) (m : ℕ) (rows : List Row) (ballots
     abbrev pub near : ℕ → ℕ → Bool
     near u t = (t == u) || share_voter step weights rows set u t
 
-    -- Of the sets that so many choices make as there are tied candidates, each is made by a choice of one near u.
-    module _ (u : ℕ) (tie : has_member (ties step weights m rows set) u ≡ true) (total : ℕ) (room : length (ties step weights m rows set) ≤ total) (made : List ℕ) where
+    -- the tied candidates far from u
+    abbrev pub far-from : ℕ → List ℕ
+    far-from u = other_members (ties step weights m rows set) (filter (near u) (ties step weights m rows set))
+
+    far-member : (u t : ℕ) → has_member (ties step weights m rows set) t ≡ true → near u t ≡ false → has_member (far-from u) t ≡ true
+    far-member u t tie far =
+        let all = ties step weights m rows set in
+        let none : not (has_member (filter (near u) all) t) ≡ true = ap not (has_member-filter (near u) all t ∙ ap (λ b. b && has_member all t) far) in
+        has_member-filter (λ n. not (has_member (filter (near u) all) n)) all t ∙ and_from (not (has_member (filter (near u) all) t)) (has_member all t) none tie
+
+    -- Where the voters of those far from u cannot give the best worth in each of so many choices, each set that these
+    -- choices make is made by a choice of one near u.
+    module _ (u : ℕ) (tie : has_member (ties step weights m rows set) u ≡ true) (total : ℕ) (room : given step weights rows set (far-from u) < total * tied_worth step weights m rows set) (made : List ℕ) where
       abbrev pub Begins : Type 0
       Begins = (v : ℕ) × (has_member (ties step weights m rows set) v ≡ true) × (near u v ≡ true) × LeadsTo step weights m rows made (total - 1) (change step set v)
 
       walk : (n : ℕ) (together now : List ℕ) → IsApart together → ((s : ℕ) → has_member together s ≡ true → near u s ≡ false) → length together + n ≡ total → IsIncreasing 1 m now
           → ((x : ℕ) → clone_count rows (picked step m now) x ≡ clone_count rows (picked step m set) x + clone_count rows together x) → LeadsTo step weights m rows made n now → Begins
       walk zero together now is far long up' at leads =
-          let more = apart-more together is u tie (λ s inside. (far-parts u s (far s inside)).1) in
-          let out = u-out together is u tie (λ s inside. (far-parts u s (far s inside)).1) now up' at in
-          absurd (omega (
-            arith,
-            long,
-            room,
-            count-with (λ (x : ℕ). true) together u out,
-            length-sum together,
-            length-sum (with_member together u),
-            length-among m (with_member together u) (ties step weights m rows set) more.increasing (tied-increasing step weights m rows set) more.tied,
-          ))
+          let best = tied_worth step weights m rows set in
+          let used : length together * best ≤ given step weights rows set (far-from u) =
+          apart-given step weights set m together (far-from u) is.increasing (λ t inside. far-member u t (is.tied t inside) (far t inside)) rows best is.apart
+          (λ t inside. tied-reaches step weights m rows ballots falls set up t (tied-is step weights m rows set t (is.tied t inside))) in
+          let all : length together * best ≡ total * best = ap (λ n. n * best) (omega (arith, long)) in
+          absurd (omega (arith, used, all, room))
       walk (suc n) together now is far long up' at leads =
           let c : ℕ = leads.0 in
           let free = choice-open step weights m rows now c leads.1 in

@@ -166,26 +166,24 @@ module _ (step : Step) (weights : List ℕ) (m : ℕ) (rows : List Row) (ballots
           omega (arith, none, member-counts (are_clones rows c) all u.0 u.1 (clones-joined rows c d.0 u.0 d.2 u.2))
     ]
 
-  -- the ties bring something
-  pub tied-positive : 0 < tied_worth step weights m rows set → (t : ℕ) → is_choice step weights m rows set t ≡ true → 0 < worth step weights rows set t
-  tied-positive some t is = by step some (and_parts (has_member (open_candidates step m set) t) (list_all (λ d. is_no_better step (worth step weights rows set d) (worth step weights rows set t)) (open_candidates step m set)) is)
+  -- each of the ties brings the best worth
+  pub tied-reaches : (t : ℕ) → is_choice step weights m rows set t ≡ true → tied_worth step weights m rows set ≤ worth step weights rows set t
+  tied-reaches t is = by step (and_parts (has_member (open_candidates step m set) t) (list_all (λ d. is_no_better step (worth step weights rows set d) (worth step weights rows set t)) (open_candidates step m set)) is)
     where
-      by : (s : Step) → 0 < tied_worth s weights m rows set
-          → (has_member (open_candidates s m set) t ≡ true) × (list_all (λ d. is_no_better s (worth s weights rows set d) (worth s weights rows set t)) (open_candidates s m set) ≡ true)
-          → 0 < worth s weights rows set t
-      by Grow more parts =
+      by : (s : Step) → (has_member (open_candidates s m set) t ≡ true) × (list_all (λ d. is_no_better s (worth s weights rows set d) (worth s weights rows set t)) (open_candidates s m set) ≡ true)
+          → tied_worth s weights m rows set ≤ worth s weights rows set t
+      by Grow parts =
           let w : ℕ → ℕ = gain weights rows set in
-          omega (
-            arith,
-            more,
-            leb-true (greatest w 0 (others m set)) (w t) (sym (bounds-greatest w 0 (w t) (others m set)) ∙ and_from (nat_le 0 (w t)) (list_all (λ d. nat_le (w d) (w t)) (others m set)) (le-leb 0 (w t) (omega arith)) parts.1),
-          )
-      by Shrink more parts =
+          leb-true (greatest w 0 (others m set)) (w t) (sym (bounds-greatest w 0 (w t) (others m set)) ∙ and_from (nat_le 0 (w t)) (list_all (λ d. nat_le (w d) (w t)) (others m set)) (le-leb 0 (w t) (omega arith)) parts.1)
+      by Shrink parts =
           let w : ℕ → ℕ = loss weights rows set in
           let free : List ℕ = open_candidates Shrink m set in
           let low : ℕ = lowest w (2 ^ 128 - 1) free in
           let each = and_parts (nat_le low (2 ^ 128 - 1)) (list_all (λ d. nat_le low (w d)) free) (bounds-lowest w (2 ^ 128 - 1) low free ∙ le-leb low low (omega arith)) in
-          omega (arith, more, leb-true low (w t) (all-at (λ d. nat_le low (w d)) free t each.1 parts.0))
+          leb-true low (w t) (all-at (λ d. nat_le low (w d)) free t each.1 parts.0)
+
+  pub tied-positive : 0 < tied_worth step weights m rows set → (t : ℕ) → is_choice step weights m rows set t ≡ true → 0 < worth step weights rows set t
+  tied-positive some t is = omega (arith, some, tied-reaches t is)
 
   independent-span : 0 < tied_worth step weights m rows set → shares_no_voter rows all ≡ true → IsSpan step weights m rows set last
   independent-span some apart =

@@ -1,10 +1,10 @@
 -- What one choice does to a family, as the code finds it.
 use Rattle.std.proofs.lemmas.Grind.{common_steps}
 use Rattle.std.proofs.Common.{◌≡◌, ℕ, ◌+◌, ◌*◌, ◌-◌, ◌≤◌, ◌==◌, ◌&&◌, ◌∙◌, cond, length, not, Some, None, Bool, true, false, List, [], ◌∷◌, refl, sym, ap, arith, filter, map, subst, get_or}
-use Rattle.std.specs.Prelude.{fold, nat_le, nat_lt, sum_by}
+use Rattle.std.specs.Prelude.{fold, nat_le, nat_lt, slice_index_or, sum_by}
 use Rattle.std.proofs.Math.Bool.{and-true}
 use Rattle.std.specs.List.{list_all, range_with_len, AllByRecursion}
-use Rattle.std.proofs.lemmas.Bool.{and_parts, and_from, not-true, both_ways, cases_eq, eq-eqb, ne_eqb, le-leb, leb-true}
+use Rattle.std.proofs.lemmas.Bool.{and_parts, and_from, not-true, both_ways, cases_eq, eq-eqb, ne_eqb, le-leb, le-ltb, leb-true}
 use Rattle.ballot_base.specs.CandSet.{has_member, common_members, members_upto, other_members, without_member}
 use Rattle.ballot_base.specs.Ballots.{Row, hits}
 use Rattle.ballot_base.proofs.Increasing.{has_member-filter, has_member_head}
@@ -18,7 +18,7 @@ use Rattle.tie_walk.specs.declared.sequential.Step.TheVariants.{Grow, Shrink}
 use Rattle.tie_walk.proofs.StepLemmas.{filter-twice, has_member-range}
 use Rattle.tie_walk.proofs.WinnersLemmas.{greatest, bounds-greatest, same_filter}
 use Rattle.ballot_base.specs.Clones.{are_clones, clones_among}
-use Rattle.sequential_winners.specs.Steps.Levels.{is_first_open, is_settled, has_settled, ties, shares_no_voter, tied_worth, beginners, end, chosen, followed, followers}
+use Rattle.sequential_winners.specs.Steps.Levels.{is_first_open, is_settled, has_settled, ties, shares_no_voter, tied_worth, is_near, given, beginners, end, chosen, followed, followers}
 use Rattle.sequential_winners.proofs.TiedClones.{choice-open, choice-best, choice-from}
 use Rattle.sequential_winners.proofs.Lists.{all-at, all-from, same_tests, open-is, open-from}
 use Rattle.ballot_base.specs.Clones.{AreClones}
@@ -153,6 +153,24 @@ pub end-found : (step : Step) (weights : List ℕ) (m : ℕ) (rows : List Row) (
     (cond (nat_lt 0 best && (nat_le 2 (length (ties step weights m rows set)) && shares_no_voter rows (ties step weights m rows set))) (Some (fold (change step) set (ties step weights m rows set))) None)
 unfolding end
 end-found step weights m rows set best is = rw (settled-is step weights m rows set best is, is) refl
+
+-- ---- who is followed, as the code finds it
+
+module _ (step : Step) (weights : List ℕ) (m : ℕ) (rows : List Row) (left : ℕ) (set tied : List ℕ) (best : ℕ) (tied-are : tied ≡ ties step weights m rows set) (best-is : best ≡ tied_worth step weights m rows set) where
+  pub beginners-are : (near : List ℕ) (first : ℕ) (b : Bool) → slice_index_or tied 0 0 ≡ first → near ≡ filter (is_near step weights rows set first) tied
+      → nat_lt (given step weights rows set (other_members tied near)) (left * best) ≡ b → cond b near tied ≡ beginners step weights m rows left set
+  beginners-are near first b first-is near-is is =
+      ap (λ c. cond c near tied) (sym is)
+      ∙ ap (λ n. cond (nat_lt (given step weights rows set (other_members tied near)) (left * n)) near tied) best-is
+      ∙ ap (λ l. cond (nat_lt (given step weights rows set (other_members tied l)) (left * tied_worth step weights m rows set)) l tied) (near-is ∙ ap (λ c. filter (is_near step weights rows set c) tied) (sym first-is))
+      ∙ ap (λ t. cond (nat_lt (given step weights rows set (other_members t (filter (is_near step weights rows set (slice_index_or t 0 0)) t))) (left * tied_worth step weights m rows set)) (filter (is_near step weights rows set (slice_index_or t 0 0)) t) t) tied-are
+
+  -- where nobody brings anything, all are followed
+  pub beginners-flat : best ≡ 0 → tied ≡ beginners step weights m rows left set
+  beginners-flat none =
+      let near : List ℕ = filter (is_near step weights rows set (slice_index_or tied 0 0)) tied in
+      let nothing : left * best ≡ left * 0 = ap (λ n. left * n) none in
+      beginners-are near (slice_index_or tied 0 0) false refl refl (le-ltb (given step weights rows set (other_members tied near)) (left * best) (omega (arith, nothing)))
 
 -- ---- what follows a set, as the code finds it
 

@@ -9,9 +9,10 @@
 //!   were chosen, and no other candidate does, not even a clone (`proofs/SpanLemmas.antt`). They are chosen in any
 //!   order.
 //! - **Ties may be near or far.** Who is chosen among tied candidates takes out of the tie exactly those with whom it
-//!   shares a voter whose next hit still adds something; the others keep their gain. If at least as many choices are
-//!   still to be made as candidates tie, the first of them or somebody near it, with such a voter in common, is chosen
-//!   before the best gain falls, and may be chosen at once (`proofs/PhaseLemmas.antt`). So only these are followed.
+//!   shares a voter whose next hit still adds something; the others keep their gain. So each choice uses up voters whose
+//!   next hits add the best gain together. If all voters of candidates far from the first tied one add less than that
+//!   for each choice still to be made, then the first one or somebody near it, with a shared voter, is chosen before the
+//!   best gain falls, and may be chosen at once (`proofs/PhaseLemmas.antt`). So only these are followed.
 //!
 //! In the second and third case all choices lead to one set, the `end`: all candidates, or the set with all tied ones.
 //! Only the end is followed, once as many choices were made. If it lies beyond the committee's size, the set stays for
@@ -24,7 +25,7 @@ ghost use Rattle.ballot_base.specs.CandSet.{has_member};
 ghost use Rattle.ballot_base.specs.Limits.{most_candidates};
 ghost use Rattle.ballot_base.specs.Lists.{IsIncreasing};
 ghost use Rattle.tie_walk.specs.Steps.Choices.{best_worth, tied_by, HasSetsOf};
-ghost use Rattle.sequential_winners.specs.Steps.Levels.{ties_by, next_hit_by, near_by, beginners_by, end_by, followers_by, AreFollowing, AreReached};
+ghost use Rattle.sequential_winners.specs.Steps.Levels.{ties_by, next_hit_by, given_by, near_by, beginners_by, end_by, followers_by, AreFollowing, AreReached};
 
 use ballot_base::{CandSet, Clones};
 use std::alloc::{AllocError, Allocator};
@@ -84,16 +85,36 @@ impl<A: Allocator + Copy + Drop> Levels<'_, A> {
         (best, ties, None)
     }
 
+    /// What a voter's next hit adds to the set, or what the last one takes from it.
+    fn next_hit(&self, ballot: CandSet, set: CandSet) -> u128
+        ensures { result ≡ next_hit_by self.now.choices.rule self.now.choices.profile.now set ballot }
+    {
+        let Choices { profile, rule, .. } = &self.choices;
+        let weights = &self.choices.weights[..usize::from(profile.m())];
+        rule.step().weight(weights, ballot.common(set).len())
+    }
+
     /// Whether a voter approves a candidate, and the voter's next hit adds something to the set, or the last one takes
     /// something from it.
     fn gives(&self, ballot: CandSet, set: CandSet, c: u8) -> bool
         ensures { result ≡ (nat_lt 0 (next_hit_by self.now.choices.rule self.now.choices.profile.now set ballot)
             && has_member ballot c) }
     {
-        let Choices { profile, rule, .. } = &self.choices;
-        let weights = &self.choices.weights[..usize::from(profile.m())];
-        let next_hit = rule.step().weight(weights, ballot.common(set).len());
-        next_hit > 0 && ballot.has(c)
+        ballot.has(c) && self.next_hit(ballot, set) > 0
+    }
+
+    /// What all voters give who approve one of the candidates: what their next hits add to the set, or what the last
+    /// ones take from it.
+    fn given(&self, set: CandSet, candidates: CandSet) -> u128
+        ensures { result ≡ given_by self.now.choices.rule self.now.choices.profile.now set candidates }
+    {
+        let mut given = 0;
+        for (ballot, voters) in self.choices.profile.ballots() {
+            if ballot.common(candidates).len() > 0 {
+                given += u128::from(voters) * self.next_hit(ballot, set);
+            }
+        }
+        given
     }
 
     /// The first of the tied candidates, and those who share a voter with it whose next hit adds something.
@@ -111,20 +132,24 @@ impl<A: Allocator + Copy + Drop> Levels<'_, A> {
         near
     }
 
-    /// The candidates who are followed from a set, where `left` choices are still to be made. If these are no fewer
-    /// than the tied candidates, the first one or somebody near is chosen before the best worth changes; so only these
-    /// are followed.
+    /// The candidates who are followed from a set, where `left` choices are still to be made. If the voters of those far
+    /// from the first tied candidate cannot give the best worth so often, the first one or somebody near is chosen
+    /// before the best worth changes; so only these are followed.
     fn beginners(&self, set: CandSet, best: u128, ties: CandSet, left: u8) -> CandSet
         requires best { best ≡ best_worth self.now.choices.rule self.now.choices.profile.now set }
         requires ties { ties ≡ ties_by self.now.choices.rule self.now.choices.profile.now set }
+        requires valid { IsIncreasing 1 most_candidates ties }
         ensures { result ≡ beginners_by self.now.choices.rule self.now.choices.profile.now left set }
     {
-        if best == 0 || ties.len() > left {
-            return ties;
-        }
-        match ties.split_first() {
-            Some((first, _)) => self.near(set, ties, first),
-            None => ties,
+        let first = match ties.split_first() {
+            Some((first, _)) if best > 0 => first,
+            _ => return ties,
+        };
+        let near = self.near(set, ties, first);
+        if self.given(set, ties.minus(near)) / best < u128::from(left) {
+            near
+        } else {
+            ties
         }
     }
 

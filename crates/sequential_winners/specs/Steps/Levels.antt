@@ -1,11 +1,11 @@
 -- The families that choices make, level by level.
-use Rattle.std.specs.Prelude.{◌≡◌, ℕ, zero, suc, nat_lt, nat_le, fold, Option, None, Some, ◌+◌, ◌-◌, ◌<◌, ◌≤◌, ◌⊎◌, ⊤, Contains, true, ◌&&◌, ◌==◌, ◌||◌, Bool, false, not, List, [], ◌∷◌, length, map, filter, slice_index_or, if◌then◌else◌}
+use Rattle.std.specs.Prelude.{◌≡◌, ℕ, zero, suc, nat_lt, nat_le, fold, Option, None, Some, ◌+◌, ◌-◌, ◌*◌, ◌<◌, ◌≤◌, ◌⊎◌, ⊤, Contains, true, ◌&&◌, ◌==◌, ◌||◌, Bool, false, not, List, [], ◌∷◌, length, map, filter, sum_by, slice_index_or, if◌then◌else◌}
 use Rattle.std.specs.List.{list_all, list_any, flat_map, range_with_len, zip, AllByRecursion}
 use Rattle.std.specs.List.Sorted.{IsStrictlySortedBy}
 use Rattle.std.specs.Cmp.Lexicographic.{slice_cmp}
 use Rattle.std.specs.Ordering.{nat_cmp}
 use Rattle.ballot_base.specs.Lists.{IsIncreasing}
-use Rattle.ballot_base.specs.CandSet.{has_member}
+use Rattle.ballot_base.specs.CandSet.{has_member, other_members}
 use Rattle.ballot_base.specs.Ballots.{Row, Election, hits}
 use Rattle.tie_walk.specs.Sequences.{hit_weights, weight, gain, others, is_sequential_winner}
 use Rattle.tie_walk.specs.Steps.Choices.{step_of, hits_of, may_choose, change, worth, better, worst, open_candidates, is_choice, start, IsReached, IsInOrder}
@@ -83,13 +83,25 @@ chosen step m set = length (picked step m set)
 abbrev pub is_near : Step → List ℕ → List Row → List ℕ → ℕ → ℕ → Bool
 is_near step weights rows set other c = (c == other) || share_voter step weights rows set other c
 
--- The candidates who are followed, where `left` choices are still to be made. If these are no fewer than the tied
--- candidates, the first of them or somebody near is chosen before the best worth changes, and may be chosen at once.
+-- what a voter gives who approves one of the candidates: what the next hit adds, or what the last one takes
+abbrev pub given_share : Step → List ℕ → List ℕ → List ℕ → Row → ℕ
+given_share step weights set candidates row =
+    if nat_lt 0 (hits row.0 candidates) then next_hit step weights set row else 0
+
+-- what all voters give who approve one of the candidates
+abbrev pub given : Step → List ℕ → List Row → List ℕ → List ℕ → ℕ
+given step weights rows set candidates =
+    sum_by (λ (row : Row). row.1 * given_share step weights set candidates row) rows
+
+-- The candidates who are followed, where `left` choices are still to be made. Each choice of a tied candidate uses up
+-- voters who give the best worth. If those who approve a candidate far from the first tied one give less than `left`
+-- times as much, then the first or somebody near is chosen before the best worth changes, and may be chosen at once.
 abbrev pub beginners : Step → List ℕ → ℕ → List Row → ℕ → List ℕ → List ℕ
 beginners step weights m rows left set =
     let tied = ties step weights m rows set in
-    if nat_lt 0 (tied_worth step weights m rows set) && nat_le (length tied) left
-    then filter (is_near step weights rows set (slice_index_or tied 0 0)) tied
+    let near = filter (is_near step weights rows set (slice_index_or tied 0 0)) tied in
+    if nat_lt (given step weights rows set (other_members tied near)) (left * tied_worth step weights m rows set)
+    then near
     else tied
 
 -- what follows a set in the levels of `total` choices: the sets that one choice makes; or the end; or the set itself,
@@ -198,6 +210,10 @@ next_hit_by rule e set ballot = weight (hit_weights rule e.m) (hits_of (step_of 
 abbrev pub near_by : SeqRule → Election → List ℕ → ℕ → List ℕ → List ℕ
 near_by rule e set other candidates =
     filter (is_near (step_of rule) (hit_weights rule e.m) e.rows set other) candidates
+
+-- `given` of an election
+abbrev pub given_by : SeqRule → Election → List ℕ → List ℕ → ℕ
+given_by rule e set candidates = given (step_of rule) (hit_weights rule e.m) e.rows set candidates
 
 abbrev pub beginners_by : SeqRule → Election → ℕ → List ℕ → List ℕ
 beginners_by rule e left set = beginners (step_of rule) (hit_weights rule e.m) e.m e.rows left set

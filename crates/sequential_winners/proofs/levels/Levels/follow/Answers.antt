@@ -3,7 +3,11 @@ use Rattle.std.proofs.lemmas.Bool.{le-leb, lt-leb}
 use Rattle.tie_walk.specs.Sequences.{hit_weights}
 use Rattle.tie_walk.specs.Steps.Choices.{step_of, choices_of, change, HasSetsOf}
 use Rattle.tie_walk.proofs.FoundLemmas.{found-inserted}
-use Rattle.sequential_winners.specs.Steps.Levels.{chosen, beginners_by, end_by, followers_by}
+use Rattle.sequential_winners.specs.Steps.Levels.{chosen, ties_by, beginners_by, end_by, followers_by}
+use Rattle.ballot_base.specs.Limits.{most_candidates}
+use Rattle.ballot_base.specs.Lists.{IsIncreasing}
+use Rattle.ballot_base.proofs.Increasing.{IsIncreasing-higher}
+use Rattle.sequential_winners.proofs.SpanLemmas.{tied-increasing}
 use Rattle.sequential_winners.proofs.StepLemmas.{followers-none, followers-last}
 use Rattle.sequential_winners.proofs.WinnerLemmas.{set-size, end-size}
 use Rattle.sequential_winners.proofs.levels.Levels.follow.Goals as goal
@@ -58,3 +62,11 @@ returns-in_ok-insert_each-in-None g c =
     let are : map (change c.step.result set) c.beginners-begin.result ≡ followers_by s.rule e c.args.total set =
     ap (λ t. map (change t set) c.beginners-begin.result) c.step.ensures ∙ ap (map (change (step_of s.rule) set)) begin ∙ followers-none (step_of s.rule) (hit_weights s.rule e.m) e.m e.rows c.args.total set none in
     subst (λ l. HasSetsOf (c.args.found.now.keys ++ l) c.insert_each.new.found.keys) are c.in_ok-insert_each-in-None.ensures
+
+pub beginners-begin-requires-clause-valid : goal.beginners-begin-requires-clause-valid
+beginners-begin-requires-clause-valid g c =
+    let s = c.args.self.now.choices in
+    let e = s.profile.now in
+    let weights = hit_weights s.rule e.m in
+    subst (IsIncreasing 1 most_candidates) (sym (c.ties_and_end-best.ensures.ties c.in-None.is))
+    (IsIncreasing-higher 1 e.m most_candidates (ties_by s.rule e c.args.set) c.m-in-None.ensures.valid.most (tied-increasing (step_of s.rule) weights e.m e.rows c.args.set))
