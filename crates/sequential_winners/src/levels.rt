@@ -9,10 +9,10 @@
 //!   were chosen, and no other candidate does, not even a clone (`proofs/SpanLemmas.antt`). They are chosen in any
 //!   order.
 //! - **Ties may be near or far.** Who is chosen among tied candidates takes out of the tie exactly those with whom it
-//!   shares a voter whose next hit still adds something; the others keep their gain. So each choice uses up voters whose
-//!   next hits add the best gain together. If all voters of candidates far from the first tied one add less than that
-//!   for each choice still to be made, then the first one or somebody near it, with a shared voter, is chosen before the
-//!   best gain falls, and may be chosen at once (`proofs/PhaseLemmas.antt`). So only these are followed.
+//!   shares a voter whose next hit still adds something; the others keep their gain. So each choice uses up voters
+//!   whose next hits add up to the best gain. The voters of the candidates far from the first tied one may not suffice
+//!   for all choices still to be made. Then the first one or somebody near it, with such a voter in common, is chosen
+//!   before the best gain falls, and may be chosen at once (`proofs/PhaseLemmas.antt`). So only these are followed.
 //!
 //! In the second and third case all choices lead to one set, the `end`: all candidates, or the set with all tied ones.
 //! Only the end is followed, once as many choices were made. If it lies beyond the committee's size, the set stays for
@@ -103,8 +103,8 @@ impl<A: Allocator + Copy + Drop> Levels<'_, A> {
         ballot.has(c) && self.next_hit(ballot, set) > 0
     }
 
-    /// What all voters give who approve one of the candidates: what their next hits add to the set, or what the last
-    /// ones take from it.
+    /// What those voters give together who approve one of the candidates: what their next hits add to the set, or what
+    /// the last ones take from it.
     fn given(&self, set: CandSet, candidates: CandSet) -> u128
         ensures { result ≡ given_by self.now.choices.rule self.now.choices.profile.now set candidates }
     {
@@ -132,9 +132,9 @@ impl<A: Allocator + Copy + Drop> Levels<'_, A> {
         near
     }
 
-    /// The candidates who are followed from a set, where `left` choices are still to be made. If the voters of those far
-    /// from the first tied candidate cannot give the best worth so often, the first one or somebody near is chosen
-    /// before the best worth changes; so only these are followed.
+    /// The candidates who are followed from a set, where `left` choices are still to be made. If the voters of those
+    /// far from the first tied candidate give less than `left` times the best worth, the first one or somebody near it
+    /// is chosen before the best worth changes. So only these are followed.
     fn beginners(&self, set: CandSet, best: u128, ties: CandSet, left: u8) -> CandSet
         requires best { best ≡ best_worth self.now.choices.rule self.now.choices.profile.now set }
         requires ties { ties ≡ ties_by self.now.choices.rule self.now.choices.profile.now set }
