@@ -17,7 +17,8 @@
 //! In the second and third case all choices lead to one set, the `end`: all candidates, or the set with all tied ones.
 //! Only the end is followed, once as many choices were made. If it lies beyond the committee's size, the set stays for
 //! good, and stands for all sets between the two. `proofs/LevelLemmas.antt` shows, by induction over levels, that the
-//! choices still to be made lead from the sets of a level to exactly the committees that some sequence of choices makes.
+//! choices still to be made lead from the sets of a level to exactly the committees that some sequence of choices
+//! makes.
 ghost use Rattle.std.specs.Prelude.{◌≡◌, ◌≤◌, ◌++◌, ◌&&◌, nat_lt, true, None, IfOk, OnOk};
 ghost use Rattle.std.specs.List.{AllByRecursion};
 ghost use Rattle.ballot_base.specs.Clones.{AreClones};
@@ -110,7 +111,7 @@ impl<A: Allocator + Copy + Drop> Levels<'_, A> {
     {
         let mut given = 0;
         for (ballot, voters) in self.choices.profile.ballots() {
-            if ballot.common(candidates).len() > 0 {
+            if !ballot.common(candidates).is_empty() {
                 given += u128::from(voters) * self.next_hit(ballot, set);
             }
         }

@@ -1,5 +1,5 @@
-use Rattle.std.proofs.Common.{◌≡◌, ◌*◌, ◌+◌, ◌<◌, ◌≤◌, ◌^◌, ◌-◌, ◌++◌, ◌∷◌, [], ◌∙◌, refl, cond, Some, slice_get, take, length, sym, ap, arith}
-use Rattle.std.proofs.lemmas.Bool.{lt-ltb, le-ltb}
+use Rattle.std.proofs.Common.{◌≡◌, ℕ, ◌*◌, ◌+◌, ◌<◌, ◌≤◌, ◌^◌, ◌-◌, ◌++◌, ◌∷◌, [], ◌∙◌, refl, cond, List, Some, slice_get, take, length, sym, ap, arith, inl, inr}
+use Rattle.std.proofs.lemmas.Bool.{cases_lt, both_ways, lt-ltb, le-ltb}
 use Rattle.std.proofs.lemmas.List.{length_push}
 use Rattle.ballot_base.specs.Ballots.{Row, hits}
 use Rattle.ballot_base.proofs.Turns.{row_of_turn, all_passed}
@@ -33,6 +33,10 @@ fits g c =
 product : (g : _) (c : After-next_hit g) → c.from.result * c.next_hit.result ≡ c.in-Some.voters * next_hit_by c.args.self.now.choices.rule c.args.self.now.choices.profile.now c.args.set c.in-Some.ballot
 product g c = rw (c.from.ensures, c.next_hit.ensures) refl
 
+no-members : (xs : List ℕ) → length xs ≤ 0 → xs ≡ []
+no-members [] none = refl
+no-members (x ∷ xs) none = absurd (omega arith)
+
 pub overflow_mul-given : goal.overflow_mul-given
 overflow_mul-given g c =
     let at = goal.at.overflow_mul-given g c in
@@ -56,25 +60,28 @@ more g c =
     ∙ rows-more share e.rows i row (found g c)
     ∙ ap (λ n. n + row.1 * share row) (sym c.loop-ballot.invariant)
 
-pub loop-ballot-preserved-then-len-gt0 : goal.loop-ballot-preserved-then-len-gt0
-loop-ballot-preserved-then-len-gt0 g c =
-    let at = goal.at.loop-ballot-preserved-then-len-gt0 g c in
+pub loop-ballot-preserved-then-not-is_empty : goal.loop-ballot-preserved-then-not-is_empty
+loop-ballot-preserved-then-not-is_empty g c =
+    let at = goal.at.loop-ballot-preserved-then-not-is_empty g c in
     let ballot = c.in-Some.ballot in
-    let some : 0 < hits ballot c.args.candidates = omega (arith, c.if-len-gt0.true, c.len.ensures.count, ap length c.common.ensures, length-common ballot c.args.candidates) in
     let next = next_hit_by c.args.self.now.choices.rule c.args.self.now.choices.profile.now c.args.set ballot in
+    let some : 0 < hits ballot c.args.candidates = elim (cases_lt 0 (hits ballot c.args.candidates)) [
+      | inl more ↦ more
+      | inr none ↦
+          absurd (both_ways c.is_empty.result c.if-not-is_empty.true
+          (c.is_empty.ensures.1 (no-members c.common.result (omega (arith, none, ap length c.common.ensures, length-common ballot c.args.candidates)))))
+    ] in
     ap (λ n. c.loop-ballot.given + n) (product g at.After-next_hit) ∙ sym (more g at.In-Some ∙ ap (λ b. c.loop-ballot.given + c.in-Some.voters * cond b next 0) (lt-ltb 0 (hits ballot c.args.candidates) some))
 
 pub loop-ballot-preserved : goal.loop-ballot-preserved
 loop-ballot-preserved g c =
     let at = goal.at.loop-ballot-preserved g c in
     let ballot = c.in-Some.ballot in
-    let none : hits ballot c.args.candidates ≤ 0 = omega (arith, c.if-len-gt0.false, c.len.ensures.count, ap length c.common.ensures, length-common ballot c.args.candidates) in
     let next = next_hit_by c.args.self.now.choices.rule c.args.self.now.choices.profile.now c.args.set ballot in
-    let e : given_share (step_of c.args.self.now.choices.rule) (hit_weights c.args.self.now.choices.rule c.args.self.now.choices.profile.now.m) c.args.set c.args.candidates (ballot, c.in-Some.voters) ≡ 0 =
-    ap (λ b. cond b next 0) (le-ltb 0 (hits ballot c.args.candidates) none) in
-    let f : c.in-Some.voters * given_share (step_of c.args.self.now.choices.rule) (hit_weights c.args.self.now.choices.rule c.args.self.now.choices.profile.now.m) c.args.set c.args.candidates (ballot, c.in-Some.voters) ≡ c.in-Some.voters * 0 =
-    ap (λ n. c.in-Some.voters * n) e in
-    omega (arith, more g at.In-Some, f)
+    let none : hits ballot c.args.candidates ≤ 0 = omega (arith, ap length (c.is_empty.ensures.0 c.if-not-is_empty.false), ap length c.common.ensures, length-common ballot c.args.candidates) in
+    let e : c.in-Some.voters * given_share (step_of c.args.self.now.choices.rule) (hit_weights c.args.self.now.choices.rule c.args.self.now.choices.profile.now.m) c.args.set c.args.candidates (ballot, c.in-Some.voters) ≡ c.in-Some.voters * 0 =
+    ap (λ b. c.in-Some.voters * cond b next 0) (le-ltb 0 (hits ballot c.args.candidates) none) in
+    omega (arith, more g at.In-Some, e)
 
 pub returns : goal.returns
 returns g c =
