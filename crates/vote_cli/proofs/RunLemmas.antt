@@ -68,9 +68,9 @@ module _ {W : Type 0} {contents : W → Option (List ℕ)} {calls : W → Calls}
       record { answer = (text, right, Passes-all whole); writes = (whole.whole refl).1; unread = λ e. cc }
 
 -- an answer that is written in two parts
-module _ {W : Type 0} {contents : W → Option (List ℕ)} {calls : W → Calls} {old new : W} where
+module _ {W T : Type 0} {contents : W → Option (List ℕ)} {calls : W → Calls} {old new : W} where
   -- the first part was not written whole
-  pub writes_first : {one whole : List ℕ} (other : List ℕ) (first : Result (Unit {0}) Broken) (e : Broken) (result : Result Outcome Refusal) → first ≡ Err e
+  pub writes_first : {one whole : List ℕ} (other : List ℕ) (first : Result T Broken) (e : Broken) (result : Result Outcome Refusal) → first ≡ Err e
       → IsErr result × IsErrAnd result (λ refusal. refusal ≡ WriteFailed) → whole ≡ one ++ other → Sends contents calls old new (is_ok first) one
       → Writes contents calls old new result (λ answer. answer ≡ answered whole)
   writes_first {one} {whole} other first e result was failed parts sent =
@@ -79,7 +79,7 @@ module _ {W : Type 0} {contents : W → Option (List ℕ)} {calls : W → Calls}
       (subst (SendsAll contents calls old new false) (sym parts) (Passes-cut (Passes-broken other broken)))
 
   -- the first part was, and the second was not
-  pub writes_second : (mid : W) {one other whole : List ℕ} (first : Result (Unit {0}) Broken) (done : Unit {0}) (second : Result (Unit {0}) Broken) (e : Broken) (result : Result Outcome Refusal)
+  pub writes_second : (mid : W) {one other whole : List ℕ} (first : Result T Broken) (done : T) (second : Result (Unit {0}) Broken) (e : Broken) (result : Result Outcome Refusal)
       → first ≡ Ok done → second ≡ Err e → IsErr result × IsErrAnd result (λ refusal. refusal ≡ WriteFailed) → whole ≡ one ++ other
       → Sends contents calls old mid (is_ok first) one → SendsAll contents calls mid new (is_ok second) other
       → Writes contents calls old new result (λ answer. answer ≡ answered whole)
@@ -90,7 +90,7 @@ module _ {W : Type 0} {contents : W → Option (List ℕ)} {calls : W → Calls}
       (subst (SendsAll contents calls old new false) (sym parts) (Passes-then (Passes-flushed begun) broken))
 
   -- both parts were
-  pub writes_both : (mid : W) {one other whole : List ℕ} (first second : Result (Unit {0}) Broken) (done ended : Unit {0})
+  pub writes_both : (mid : W) {one other whole : List ℕ} (first : Result T Broken) (second : Result (Unit {0}) Broken) (done : T) (ended : Unit {0})
       → first ≡ Ok done → second ≡ Ok ended → whole ≡ one ++ other
       → Sends contents calls old mid (is_ok first) one → SendsAll contents calls mid new (is_ok second) other
       → Writes contents calls old new (Ok outcome.Answered) (λ answer. answer ≡ answered whole)

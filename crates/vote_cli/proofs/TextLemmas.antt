@@ -92,10 +92,10 @@ scored_parts names page rule size e = append_assoc (rule_lines (Scored rule) siz
     (answers_text (committee_line names) page.limit (later_than page.after (winners (value_by rule size e) e.m size)))
 
 -- the same of a sequential rule, of which these families are
-pub sequential_parts : (names : Names) (page : Page) (rule : SeqRule) (size : ℕ) (e : Election) (families : Families) (left : List (List ℕ)) → families ≡ sequential_of e rule size
-    → left ≡ later_than page.after (sequential_winners families.rule families.election families.k)
-    → elect_text (Sequential rule) size page names e ≡ rule_lines (Sequential rule) size ++ answers_text (committee_line names) page.limit left
-sequential_parts names page rule size e families left same those = rw (those, same) refl
+pub sequential_parts : (names : Names) (page : Page) (rule : SeqRule) (size : ℕ) (e : Election) (families : Families) → families ≡ sequential_of e rule size
+    → elect_text (Sequential rule) size page names e
+    ≡ rule_lines (Sequential rule) size ++ answers_text (committee_line names) page.limit (later_than page.after (sequential_winners families.rule families.election families.k))
+sequential_parts names page rule size e families same = rw same refl
 
 -- the values of each kind of rule
 module _ (names : Names) (page : Page) (size : ℕ) (e : Election) where

@@ -1,9 +1,11 @@
 //! The text of an election's winners.
 ghost use Rattle.std.specs.Prelude.{◌≡◌, ◌≤◌, ◌++◌, IfErr, IfOk, is_ok};
 ghost use Rattle.ballot_base.specs.Limits.{most_members};
+ghost use Rattle.ballot_base.specs.Lists.{later_than};
 ghost use Rattle.request_words.specs.Request.{page_of};
 ghost use Rattle.text_output.specs.Steps.Printing.{Prints, Sends, SendsAll, calls_of};
 ghost use Rattle.text_output.specs.Text.{line};
+ghost use Rattle.tie_walk.specs.Sequences.{sequential_winners};
 ghost use Rattle.tie_walk.specs.Winners.{IsStart};
 ghost use Rattle.vote_cli.specs.Answer.{answered, election_answer, request_refused};
 ghost use Rattle.vote_cli.specs.ElectText.{best_text, elect_text, rule_lines, score_text};
@@ -18,7 +20,7 @@ use crate::starts::committee_start;
 use ballot_base::{CandSet, Profile, common_multiple};
 use itoa::Buffer;
 use request_words::{Page, Rule, ScoredRule};
-use sequential_winners::FamilyWinners;
+use sequential_winners::{Families, FamilyWinners};
 use std::alloc::Allocator;
 use text_output::{Names, Printer, Sink, WriteFailed, write_pieces};
 use tie_search::{SearchWinners, Searchable};
@@ -43,6 +45,11 @@ fn print_score<W: Sink>(
     ];
     printer.print_all(&pieces)
 }
+
+/// That the lines of the rule and the size were sent. Only `Listing::write_rule` makes one, and whatever looks for
+/// winners takes one by value. So no search begins before these lines are sent.
+#[derive(Drop)]
+pub(crate) struct RuleSent(());
 
 /// An election, and what is listed of its winners: all later than `after`, or the first `limit` of them.
 #[derive(Drop)]
@@ -114,7 +121,11 @@ impl<'a, A: Allocator + Copy + Drop> Listing<'a, A> {
     /// Writes the lines of the rule and the size. They are sent at once, and the writer is not flushed.
     // Not inlined: its printer takes 8 KB of stack, which would lie beside a search for winners.
     #[inline(never)]
-    pub(crate) fn write_rule<W: Sink>(&self, out: &mut W, rule: Rule) -> Result<(), WriteFailed>
+    pub(crate) fn write_rule<W: Sink>(
+        &self,
+        out: &mut W,
+        rule: Rule,
+    ) -> Result<RuleSent, WriteFailed>
         ensures { Sends W.contents (calls_of W.has_failed W.flushes) out.old out.new (is_ok result)
             (rule_lines rule self.now.size) }
     {
@@ -126,7 +137,8 @@ impl<'a, A: Allocator + Copy + Drop> Listing<'a, A> {
             size_digits.format(self.size).as_bytes(),
             b"\n",
         ];
-        write_pieces(out, &pieces)
+        write_pieces(out, &pieces)?;
+        Ok(RuleSent(()))
     }
 
     /// Writes the lines after the rule and the size, under a rule whose values the tally computes, and flushes the
@@ -136,6 +148,7 @@ impl<'a, A: Allocator + Copy + Drop> Listing<'a, A> {
         out: &mut W,
         tally: &T,
         rule: ScoredRule,
+        _sent: RuleSent,
     ) -> Result<(), WriteFailed>
         requires { T.candidates tally.now ≡ self.now.profile.now.m }
         ensures { SendsAll W.contents (calls_of W.has_failed W.flushes) out.old out.new (is_ok result)
@@ -152,6 +165,7 @@ impl<'a, A: Allocator + Copy + Drop> Listing<'a, A> {
         out: &mut W,
         search: S,
         rule: ScoredRule,
+        _sent: RuleSent,
     ) -> Result<(), WriteFailed>
         requires { S.candidates search ≡ self.now.profile.now.m }
         ensures { SendsAll W.contents (calls_of W.has_failed W.flushes) out.old out.new (is_ok result)
@@ -183,11 +197,15 @@ impl<'a, A: Allocator + Copy + Drop> Listing<'a, A> {
     pub(crate) fn write_families<W: Sink>(
         &self,
         out: &mut W,
-        mut winners: FamilyWinners<'_, A>,
+        families: &Families<'_, A>,
+        _sent: RuleSent,
     ) -> Result<(), WriteFailed>
+        requires { IsStart families.now.election.m families.now.k self.now.after }
         ensures { SendsAll W.contents (calls_of W.has_failed W.flushes) out.old out.new (is_ok result)
-            (answers_text (committee_line self.now.names) self.now.limit winners.entry) }
+            (answers_text (committee_line self.now.names) self.now.limit (later_than self.now.after
+            (sequential_winners families.now.rule families.now.election families.now.k))) }
     {
+        let mut winners = FamilyWinners::new(families, self.after);
         let mut printer = Printer::new(out);
         self.page().print(&mut printer, &mut winners)
     }

@@ -1,6 +1,7 @@
 //! The winners of an election: the algorithm that finds them under each rule.
 //!
-//! All memory is taken first. Then the lines of the rule and the size are sent. Only then does a search begin.
+//! All memory is taken first. Then the lines of the rule and the size are sent. Only then does a search begin: it takes
+//! a `RuleSent`.
 //!
 //! The functions for a rule are not inlined: a tally or a printer takes many KB of stack, and those of other rules
 //! should not lie beside it.
@@ -11,12 +12,12 @@ ghost use Rattle.vote_cli.specs.Steps.Listed.{listed_text, winners_text};
 ghost use Rattle.vote_cli.specs.Steps.Refusals.{WritesText};
 
 use crate::answers::Outcome;
-use crate::elect_text::Listing;
+use crate::elect_text::{Listing, RuleSent};
 use crate::refusal::Refusal;
 use ballot_base::ThieleRule;
 use minimax_search::MinimaxSearch;
 use request_words::{Rule, ScoredRule};
-use sequential_winners::{Families, FamilyWinners};
+use sequential_winners::Families;
 use std::alloc::{AllocError, Allocator};
 use text_output::{Sink, WriteFailed};
 use thiele_search::{SearchMemory, ThieleSearch};
@@ -64,20 +65,21 @@ fn answer_approval<A: Allocator + Copy + Drop, W: Sink>(
     ensures { WritesText W.contents (calls_of W.has_failed W.flushes) out.old out.new result
         (listed_text listing.now (Rule.Scored (ScoredRule.Thiele ThieleRule.Av))) }
 {
-    listing.write_rule(out, Rule::Scored(ScoredRule::Thiele(ThieleRule::Av)))?;
-    by_approvals(out, listing)?;
+    let sent = listing.write_rule(out, Rule::Scored(ScoredRule::Thiele(ThieleRule::Av)))?;
+    by_approvals(out, listing, sent)?;
     Ok(Outcome::Answered)
 }
 
 fn by_approvals<A: Allocator + Copy + Drop, W: Sink>(
     out: &mut W,
     listing: &Listing<'_, A>,
+    sent: RuleSent,
 ) -> Result<(), WriteFailed>
     ensures { SendsAll W.contents (calls_of W.has_failed W.flushes) out.old out.new (is_ok result)
         (winners_text listing.now (ScoredRule.Thiele ThieleRule.Av)) }
 {
     let tally = ApprovalTally::new(listing.profile, listing.size);
-    listing.write_ranked(out, &tally, ScoredRule::Thiele(ThieleRule::Av))
+    listing.write_ranked(out, &tally, ScoredRule::Thiele(ThieleRule::Av), sent)
 }
 
 /// Writes an election under another of Thiele's rules, whose winners a search finds.
@@ -92,8 +94,8 @@ fn answer_thiele<A: Allocator + Copy + Drop, W: Sink>(
         (listed_text listing.now (Rule.Scored (ScoredRule.Thiele rule))) }
 {
     let memory = search_memory(alloc, rule, listing)?;
-    listing.write_rule(out, Rule::Scored(ScoredRule::Thiele(rule)))?;
-    by_search(out, rule, memory, listing)?;
+    let sent = listing.write_rule(out, Rule::Scored(ScoredRule::Thiele(rule)))?;
+    by_search(out, rule, memory, listing, sent)?;
     Ok(Outcome::Answered)
 }
 
@@ -116,17 +118,22 @@ fn by_search<A: Allocator + Copy + Drop, W: Sink>(
     rule: ThieleRule,
     memory: SearchMemory<'_, A>,
     listing: &Listing<'_, A>,
+    sent: RuleSent,
 ) -> Result<(), WriteFailed>
     requires { memory ≡ thiele_of listing.now.profile.now rule listing.now.size }
     ensures { SendsAll W.contents (calls_of W.has_failed W.flushes) out.old out.new (is_ok result)
         (winners_text listing.now (ScoredRule.Thiele rule)) }
 {
-    listing.write_searched(out, prepared(memory), ScoredRule::Thiele(rule))
+    let search = prepared(memory, &sent);
+    listing.write_searched(out, search, ScoredRule::Thiele(rule), sent)
 }
 
 // Not inlined: what the search is made from takes as much stack again, which is given back before the search begins.
 #[inline(never)]
-fn prepared<A: Allocator + Copy + Drop>(memory: SearchMemory<'_, A>) -> ThieleSearch<'_, A>
+fn prepared<'a, A: Allocator + Copy + Drop>(
+    memory: SearchMemory<'a, A>,
+    _sent: &RuleSent,
+) -> ThieleSearch<'a, A>
     ensures { result ≡ memory.entry }
 {
     ThieleSearch::new(memory)
@@ -141,20 +148,21 @@ fn answer_satisfaction<A: Allocator + Copy + Drop, W: Sink>(
     ensures { WritesText W.contents (calls_of W.has_failed W.flushes) out.old out.new result
         (listed_text listing.now (Rule.Scored ScoredRule.Satisfaction)) }
 {
-    listing.write_rule(out, Rule::Scored(ScoredRule::Satisfaction))?;
-    by_satisfaction(out, listing)?;
+    let sent = listing.write_rule(out, Rule::Scored(ScoredRule::Satisfaction))?;
+    by_satisfaction(out, listing, sent)?;
     Ok(Outcome::Answered)
 }
 
 fn by_satisfaction<A: Allocator + Copy + Drop, W: Sink>(
     out: &mut W,
     listing: &Listing<'_, A>,
+    sent: RuleSent,
 ) -> Result<(), WriteFailed>
     ensures { SendsAll W.contents (calls_of W.has_failed W.flushes) out.old out.new (is_ok result)
         (winners_text listing.now ScoredRule.Satisfaction) }
 {
     let tally = SavTally::new(listing.profile);
-    listing.write_ranked(out, &tally, ScoredRule::Satisfaction)
+    listing.write_ranked(out, &tally, ScoredRule::Satisfaction, sent)
 }
 
 /// Writes an election under minimax approval voting, whose winners a search finds.
@@ -168,8 +176,8 @@ fn answer_minimax<A: Allocator + Copy + Drop, W: Sink>(
         (listed_text listing.now (Rule.Scored ScoredRule.Minimax)) }
 {
     let search = MinimaxSearch::new(alloc, listing.profile)?;
-    listing.write_rule(out, Rule::Scored(ScoredRule::Minimax))?;
-    by_distance(out, search, listing)?;
+    let sent = listing.write_rule(out, Rule::Scored(ScoredRule::Minimax))?;
+    by_distance(out, search, listing, sent)?;
     Ok(Outcome::Answered)
 }
 
@@ -177,12 +185,13 @@ fn by_distance<A: Allocator + Copy + Drop, W: Sink>(
     out: &mut W,
     search: MinimaxSearch<'_, A>,
     listing: &Listing<'_, A>,
+    sent: RuleSent,
 ) -> Result<(), WriteFailed>
     requires { search ≡ listing.now.profile.now }
     ensures { SendsAll W.contents (calls_of W.has_failed W.flushes) out.old out.new (is_ok result)
         (winners_text listing.now ScoredRule.Minimax) }
 {
-    listing.write_searched(out, search, ScoredRule::Minimax)
+    listing.write_searched(out, search, ScoredRule::Minimax, sent)
 }
 
 /// Writes an election under a sequential rule, whose winners come in families.
@@ -197,8 +206,7 @@ fn answer_sequential<A: Allocator + Copy + Drop, W: Sink>(
         (listed_text listing.now (Rule.Sequential rule)) }
 {
     let families = Families::new(alloc, listing.profile, rule, listing.size)?;
-    listing.write_rule(out, Rule::Sequential(rule))?;
-    let winners = FamilyWinners::new(&families, listing.after);
-    listing.write_families(out, winners)?;
+    let sent = listing.write_rule(out, Rule::Sequential(rule))?;
+    listing.write_families(out, &families, sent)?;
     Ok(Outcome::Answered)
 }

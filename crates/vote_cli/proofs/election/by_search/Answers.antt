@@ -8,5 +8,5 @@ pub returns : goal.returns
 returns g c =
     let l = c.args.listing.now in
     subst (SendsAll g.W.Sink.contents (calls_of g.W.Device.has_failed g.W.Sink.flushes) c.args.out.now c.write_searched.new.out (is_ok c.write_searched.result))
-    (thiele_text l.names (record { after = l.after; limit = l.limit }) l.size l.profile.now c.args.rule c.prepared.result (c.prepared.ensures ∙ c.requires))
+    (thiele_text l.names (record { after = l.after; limit = l.limit }) l.size l.profile.now c.args.rule c.prepared-search.result (c.prepared-search.ensures ∙ c.requires))
     c.write_searched.ensures
