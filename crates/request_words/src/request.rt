@@ -11,6 +11,9 @@ use seat_share::Method;
 use std::marker::Model;
 use tie_walk::SeqRule;
 
+/// The number of Thiele's rules, which come first in `Rule::ALL`.
+const THIELE_RULES: usize = ThieleRule::ALL.len();
+
 /// The rule by which committees win (Lackner and Skowron, Multi-Winner Voting with Approval
 /// Preferences).
 #[derive(Clone, Copy, Debug, PartialEq, Eq)]
@@ -58,9 +61,9 @@ impl Rule {
     {
         let place = match self {
             Rule::Scored(ScoredRule::Thiele(rule)) => rule as usize,
-            Rule::Scored(ScoredRule::Satisfaction) => 6,
-            Rule::Scored(ScoredRule::Minimax) => 7,
-            Rule::Sequential(rule) => rule as usize + 8,
+            Rule::Scored(ScoredRule::Satisfaction) => THIELE_RULES,
+            Rule::Scored(ScoredRule::Minimax) => THIELE_RULES + 1,
+            Rule::Sequential(rule) => THIELE_RULES + 2 + rule as usize,
         };
         Rule::NAMES[place]
     }

@@ -115,9 +115,11 @@ fn asked(alloc: Global, name: &str, command: &ArgMatches<'_>) -> Result<Request,
     ensures { GivesAsked (asked_in name.now (rows_of (found_of command.now))) result }
 {
     match name {
+        "elect" => elect_asked(alloc, command),
         "check" => check_asked(alloc, command),
         "share" => share_asked(alloc, command),
-        _ => elect_asked(alloc, command),
+        // The program has no other command.
+        _ => unreachable!(),
     }
 }
 
