@@ -97,16 +97,17 @@ pub sequential_parts : (names : Names) (page : Page) (rule : SeqRule) (size : �
     ≡ rule_lines (Sequential rule) size ++ answers_text (committee_line names) page.limit (later_than page.after (sequential_winners families.rule families.election families.k))
 sequential_parts names page rule size e families same = rw same refl
 
--- the values of each kind of rule
+-- the same of each kind of rule, by the values of its tally
 module _ (names : Names) (page : Page) (size : ℕ) (e : Election) where
-  pub thiele_text : (rule : ThieleRule) (tally : Tally) → tally ≡ thiele_of e rule size
-      → ranked_text (Thiele rule) (thiele_value (increments tally.rule tally.k) tally.election.rows) size page names e ≡ ranked_text (Thiele rule) (value_by (Thiele rule) size e) size page names e
-  thiele_text rule tally same = rw same refl
+  pub thiele_parts : (rule : ThieleRule) (tally : Tally) → tally ≡ thiele_of e rule size
+      → elect_text (Scored (Thiele rule)) size page names e
+      ≡ rule_lines (Scored (Thiele rule)) size ++ ranked_text (Thiele rule) (thiele_value (increments tally.rule tally.k) tally.election.rows) size page names e
+  thiele_parts rule tally same = rw same (scored_parts names page (Thiele rule) size e)
 
-  pub satisfaction_text : (tally : Election) → tally ≡ e
-      → ranked_text Satisfaction (satisfaction_value tally.m tally.rows) size page names e ≡ ranked_text Satisfaction (value_by Satisfaction size e) size page names e
-  satisfaction_text tally same = rw same refl
+  pub satisfaction_parts : (tally : Election) → tally ≡ e
+      → elect_text (Scored Satisfaction) size page names e ≡ rule_lines (Scored Satisfaction) size ++ ranked_text Satisfaction (satisfaction_value tally.m tally.rows) size page names e
+  satisfaction_parts tally same = rw same (scored_parts names page Satisfaction size e)
 
-  pub minimax_text : (tally : Election) → tally ≡ e
-      → ranked_text Minimax (closeness tally.m tally.rows) size page names e ≡ ranked_text Minimax (value_by Minimax size e) size page names e
-  minimax_text tally same = rw same refl
+  pub minimax_parts : (tally : Election) → tally ≡ e
+      → elect_text (Scored Minimax) size page names e ≡ rule_lines (Scored Minimax) size ++ ranked_text Minimax (closeness tally.m tally.rows) size page names e
+  minimax_parts tally same = rw same (scored_parts names page Minimax size e)

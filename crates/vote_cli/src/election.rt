@@ -5,10 +5,10 @@
 //!
 //! The functions for a rule are not inlined: a tally or a printer takes many KB of stack, and those of other rules
 //! should not lie beside it.
-ghost use Rattle.std.specs.Prelude.{◌≡◌, IfOk, is_ok};
+ghost use Rattle.std.specs.Prelude.{◌≡◌, IfOk};
 ghost use Rattle.tie_walk.specs.Values.{thiele_of};
-ghost use Rattle.text_output.specs.Steps.Printing.{SendsAll, calls_of};
-ghost use Rattle.vote_cli.specs.Steps.Listed.{listed_text, winners_text};
+ghost use Rattle.text_output.specs.Steps.Printing.{calls_of};
+ghost use Rattle.vote_cli.specs.Steps.Listed.{listed_text};
 ghost use Rattle.vote_cli.specs.Steps.Refusals.{WritesText};
 
 use crate::answers::Outcome;
@@ -19,7 +19,7 @@ use minimax_search::MinimaxSearch;
 use request_words::{Rule, ScoredRule};
 use sequential_winners::Families;
 use std::alloc::{AllocError, Allocator};
-use text_output::{Sink, WriteFailed};
+use text_output::Sink;
 use thiele_search::{SearchMemory, ThieleSearch};
 use tie_walk::{ApprovalTally, SavTally, SeqRule};
 
@@ -34,25 +34,11 @@ pub(crate) fn answer_election<A: Allocator + Copy + Drop, W: Sink>(
         (listed_text listing.now rule) }
 {
     match rule {
-        Rule::Scored(rule) => answer_scored(alloc, out, rule, listing),
+        Rule::Scored(ScoredRule::Thiele(ThieleRule::Av)) => answer_approval(out, listing),
+        Rule::Scored(ScoredRule::Thiele(rule)) => answer_thiele(alloc, out, rule, listing),
+        Rule::Scored(ScoredRule::Satisfaction) => answer_satisfaction(out, listing),
+        Rule::Scored(ScoredRule::Minimax) => answer_minimax(alloc, out, listing),
         Rule::Sequential(rule) => answer_sequential(alloc, out, rule, listing),
-    }
-}
-
-fn answer_scored<A: Allocator + Copy + Drop, W: Sink>(
-    alloc: A,
-    out: &mut W,
-    rule: ScoredRule,
-    listing: &Listing<'_, A>,
-) -> Result<Outcome, Refusal>
-    ensures { WritesText W.contents (calls_of W.has_failed W.flushes) out.old out.new result
-        (listed_text listing.now (Rule.Scored rule)) }
-{
-    match rule {
-        ScoredRule::Thiele(ThieleRule::Av) => answer_approval(out, listing),
-        ScoredRule::Thiele(rule) => answer_thiele(alloc, out, rule, listing),
-        ScoredRule::Satisfaction => answer_satisfaction(out, listing),
-        ScoredRule::Minimax => answer_minimax(alloc, out, listing),
     }
 }
 
@@ -65,21 +51,11 @@ fn answer_approval<A: Allocator + Copy + Drop, W: Sink>(
     ensures { WritesText W.contents (calls_of W.has_failed W.flushes) out.old out.new result
         (listed_text listing.now (Rule.Scored (ScoredRule.Thiele ThieleRule.Av))) }
 {
-    let sent = listing.write_rule(out, Rule::Scored(ScoredRule::Thiele(ThieleRule::Av)))?;
-    by_approvals(out, listing, sent)?;
-    Ok(Outcome::Answered)
-}
-
-fn by_approvals<A: Allocator + Copy + Drop, W: Sink>(
-    out: &mut W,
-    listing: &Listing<'_, A>,
-    sent: RuleSent,
-) -> Result<(), WriteFailed>
-    ensures { SendsAll W.contents (calls_of W.has_failed W.flushes) out.old out.new (is_ok result)
-        (winners_text listing.now (ScoredRule.Thiele ThieleRule.Av)) }
-{
+    let rule = ScoredRule::Thiele(ThieleRule::Av);
+    let sent = listing.write_rule(out, Rule::Scored(rule))?;
     let tally = ApprovalTally::new(listing.profile, listing.size);
-    listing.write_ranked(out, &tally, ScoredRule::Thiele(ThieleRule::Av), sent)
+    listing.write_ranked(out, &tally, rule, sent)?;
+    Ok(Outcome::Answered)
 }
 
 /// Writes an election under another of Thiele's rules, whose winners a search finds.
@@ -95,7 +71,8 @@ fn answer_thiele<A: Allocator + Copy + Drop, W: Sink>(
 {
     let memory = search_memory(alloc, rule, listing)?;
     let sent = listing.write_rule(out, Rule::Scored(ScoredRule::Thiele(rule)))?;
-    by_search(out, rule, memory, listing, sent)?;
+    let search = prepared(memory, &sent);
+    listing.write_searched(out, search, ScoredRule::Thiele(rule), sent)?;
     Ok(Outcome::Answered)
 }
 
@@ -109,23 +86,6 @@ fn search_memory<'a, A: Allocator + Copy + Drop>(
     ensures { IfOk result (λ memory. memory ≡ thiele_of listing.now.profile.now rule listing.now.size) }
 {
     SearchMemory::new(alloc, listing.profile, rule, listing.size)
-}
-
-/// Writes the winners that a search in this memory finds.
-#[inline(never)]
-fn by_search<A: Allocator + Copy + Drop, W: Sink>(
-    out: &mut W,
-    rule: ThieleRule,
-    memory: SearchMemory<'_, A>,
-    listing: &Listing<'_, A>,
-    sent: RuleSent,
-) -> Result<(), WriteFailed>
-    requires { memory ≡ thiele_of listing.now.profile.now rule listing.now.size }
-    ensures { SendsAll W.contents (calls_of W.has_failed W.flushes) out.old out.new (is_ok result)
-        (winners_text listing.now (ScoredRule.Thiele rule)) }
-{
-    let search = prepared(memory, &sent);
-    listing.write_searched(out, search, ScoredRule::Thiele(rule), sent)
 }
 
 // Not inlined: what the search is made from takes as much stack again, which is given back before the search begins.
@@ -148,21 +108,11 @@ fn answer_satisfaction<A: Allocator + Copy + Drop, W: Sink>(
     ensures { WritesText W.contents (calls_of W.has_failed W.flushes) out.old out.new result
         (listed_text listing.now (Rule.Scored ScoredRule.Satisfaction)) }
 {
-    let sent = listing.write_rule(out, Rule::Scored(ScoredRule::Satisfaction))?;
-    by_satisfaction(out, listing, sent)?;
-    Ok(Outcome::Answered)
-}
-
-fn by_satisfaction<A: Allocator + Copy + Drop, W: Sink>(
-    out: &mut W,
-    listing: &Listing<'_, A>,
-    sent: RuleSent,
-) -> Result<(), WriteFailed>
-    ensures { SendsAll W.contents (calls_of W.has_failed W.flushes) out.old out.new (is_ok result)
-        (winners_text listing.now ScoredRule.Satisfaction) }
-{
+    let rule = ScoredRule::Satisfaction;
+    let sent = listing.write_rule(out, Rule::Scored(rule))?;
     let tally = SavTally::new(listing.profile);
-    listing.write_ranked(out, &tally, ScoredRule::Satisfaction, sent)
+    listing.write_ranked(out, &tally, rule, sent)?;
+    Ok(Outcome::Answered)
 }
 
 /// Writes an election under minimax approval voting, whose winners a search finds.
@@ -175,23 +125,11 @@ fn answer_minimax<A: Allocator + Copy + Drop, W: Sink>(
     ensures { WritesText W.contents (calls_of W.has_failed W.flushes) out.old out.new result
         (listed_text listing.now (Rule.Scored ScoredRule.Minimax)) }
 {
+    let rule = ScoredRule::Minimax;
     let search = MinimaxSearch::new(alloc, listing.profile)?;
-    let sent = listing.write_rule(out, Rule::Scored(ScoredRule::Minimax))?;
-    by_distance(out, search, listing, sent)?;
+    let sent = listing.write_rule(out, Rule::Scored(rule))?;
+    listing.write_searched(out, search, rule, sent)?;
     Ok(Outcome::Answered)
-}
-
-fn by_distance<A: Allocator + Copy + Drop, W: Sink>(
-    out: &mut W,
-    search: MinimaxSearch<'_, A>,
-    listing: &Listing<'_, A>,
-    sent: RuleSent,
-) -> Result<(), WriteFailed>
-    requires { search ≡ listing.now.profile.now }
-    ensures { SendsAll W.contents (calls_of W.has_failed W.flushes) out.old out.new (is_ok result)
-        (winners_text listing.now ScoredRule.Minimax) }
-{
-    listing.write_searched(out, search, ScoredRule::Minimax, sent)
 }
 
 /// Writes an election under a sequential rule, whose winners come in families.

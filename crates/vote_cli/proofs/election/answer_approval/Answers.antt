@@ -1,7 +1,7 @@
 use Rattle.ballot_base.specs.declared.increments.ThieleRule.TheVariants.{Av}
 use Rattle.request_words.specs.declared.request.ScoredRule.TheVariants.{Thiele}
 use Rattle.vote_cli.proofs.RunLemmas.{writes_both, writes_first, writes_second}
-use Rattle.vote_cli.proofs.TextLemmas.{scored_parts}
+use Rattle.vote_cli.proofs.TextLemmas.{scored_parts, thiele_parts}
 use Rattle.vote_cli.proofs.election.answer_approval.Goals as goal
 
 pub returns-in_err-sent : goal.returns-in_err-sent
@@ -10,14 +10,14 @@ returns-in_err-sent g c =
     writes_first _ c.write_rule.result _ c.from_residual.result c.in_err-sent.was c.from_residual.ensures
     (scored_parts l.names (record { after = l.after; limit = l.limit }) (Thiele Av) l.size l.profile.now) c.write_rule.ensures
 
-pub returns-in_err-by_approvals : goal.returns-in_err-by_approvals
-returns-in_err-by_approvals g c =
+pub returns-in_err-write_ranked : goal.returns-in_err-write_ranked
+returns-in_err-write_ranked g c =
     let l = c.args.listing.now in
-    writes_second c.write_rule.new.out c.write_rule.result _ c.by_approvals.result _ c.from_residual-in_err-by_approvals.result c.in_ok-sent.was c.in_err-by_approvals.was c.from_residual-in_err-by_approvals.ensures
-    (scored_parts l.names (record { after = l.after; limit = l.limit }) (Thiele Av) l.size l.profile.now) c.write_rule.ensures c.by_approvals.ensures
+    writes_second c.write_rule.new.out c.write_rule.result _ c.write_ranked.result _ c.from_residual-in_err-write_ranked.result c.in_ok-sent.was c.in_err-write_ranked.was c.from_residual-in_err-write_ranked.ensures
+    (thiele_parts l.names (record { after = l.after; limit = l.limit }) l.size l.profile.now Av c.new-tally.result c.new-tally.ensures.tally) c.write_rule.ensures c.write_ranked.ensures
 
 pub returns : goal.returns
 returns g c =
     let l = c.args.listing.now in
-    writes_both c.write_rule.new.out c.write_rule.result c.by_approvals.result _ _ c.in_ok-sent.was c.in_ok-by_approvals.was
-    (scored_parts l.names (record { after = l.after; limit = l.limit }) (Thiele Av) l.size l.profile.now) c.write_rule.ensures c.by_approvals.ensures
+    writes_both c.write_rule.new.out c.write_rule.result c.write_ranked.result _ _ c.in_ok-sent.was c.in_ok-write_ranked.was
+    (thiele_parts l.names (record { after = l.after; limit = l.limit }) l.size l.profile.now Av c.new-tally.result c.new-tally.ensures.tally) c.write_rule.ensures c.write_ranked.ensures
