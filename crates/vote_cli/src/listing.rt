@@ -146,16 +146,13 @@ fn has_room(room: Option<u32>) -> bool
     ensures some { result ≡ true → room ≢ Some 0 }
     ensures none { result ≡ false → room ≡ Some 0 }
 {
-    !matches!(room, Some(0))
+    room.is_none_or(|n| n > 0)
 }
 
 fn one_less(room: Option<u32>) -> Option<u32>
     ensures { result ≡ option_map (λ n. n - 1) room }
 {
-    match room {
-        Some(n) => Some(n.saturating_sub(1)),
-        None => None,
-    }
+    room.map(|n| n.saturating_sub(1))
 }
 
 /// The names that are printed beside answers, and the maximum number of answers.
