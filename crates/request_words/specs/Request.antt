@@ -49,7 +49,7 @@ page_of page = record { after = option_map vec_items page.after; limit = page.li
 
 -- what is asked for, with lists in the place of vectors
 abbrev pub question_of : CodeQuestion → Question
-question_of (Elect rule size page) = electing rule size (page_of page)
+question_of (Elect asked) = electing asked.rule asked.size (page_of asked.page)
 question_of (Check property committee) = checking property (vec_items committee)
 question_of (Share asked) = sharing asked.method asked.seats (page_of asked.page)
 

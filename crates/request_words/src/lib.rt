@@ -11,6 +11,6 @@ pub mod request;
 pub mod words;
 
 pub use request::{
-    MOST_LIMIT, MOST_WAY_NUMBER, Page, Question, Request, Rule, ScoredRule, Sharing, Task,
+    Electing, MOST_LIMIT, MOST_WAY_NUMBER, Page, Question, Request, Rule, ScoredRule, Sharing, Task,
 };
 pub use words::{LineFault, ListOption, read_request};

@@ -106,6 +106,18 @@ pub struct Page {
     pub limit: Option<u32>,
 }
 
+/// Which committees are asked for: the rule by which they win, how many seats they have, and which of the winners are
+/// wanted.
+#[derive(Debug, Drop)]
+pub struct Electing {
+    /// The rule by which committees win.
+    pub rule: Rule,
+    /// The number of seats, from 1 to `MOST_MEMBERS`.
+    pub size: u8,
+    /// Which of the winners are wanted. A start fits if it is a committee of this size.
+    pub page: Page,
+}
+
 /// Which seats are asked for: the method by which they are shared out among parties, how many there are, and which of
 /// the fair allocations are wanted.
 #[derive(Debug, Drop)]
@@ -122,8 +134,8 @@ pub struct Sharing {
 /// What is asked about the ballots of an input. Each list has at least one number.
 #[derive(Debug, Drop)]
 pub enum Question {
-    /// Elect committees by a rule, with this number of seats, from 1 to `MOST_MEMBERS`.
-    Elect(Rule, u8, Page),
+    /// Elect committees.
+    Elect(Electing),
     /// Check whether a committee has a property. The members are as they were given: any numbers, in any order.
     Check(Property, Vec<u64>),
     /// Share out seats. Each voter counts for the one party that the ballot approves.

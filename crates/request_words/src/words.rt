@@ -25,7 +25,7 @@ ghost use Rattle.request_words.specs.Words.{wants_names, way_by, way_in, way_nam
 use crate::commands::program;
 use crate::ending::kind_in_path;
 use crate::number_list::list_of;
-use crate::request::{Page, Question, Request, Rule, Sharing, Task};
+use crate::request::{Electing, Page, Question, Request, Rule, Sharing, Task};
 use clap::error::ErrorKind;
 use clap::{ArgMatches, Error};
 use group_check::Property;
@@ -129,7 +129,7 @@ fn elect_asked(alloc: Global, elect: &ArgMatches<'_>) -> Result<Request, LineFau
 {
     let (rule, size) = rule_and_size(elect);
     let page = page(alloc, elect)?;
-    let question = Question::Elect(rule, size, page);
+    let question = Question::Elect(Electing { rule, size, page });
     request(alloc, elect, Task::OfBallots(question))
 }
 

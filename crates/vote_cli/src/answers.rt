@@ -147,9 +147,9 @@ impl<A: Allocator + Copy + Drop> Ballots<'_, A> {
             (IsAnswerAbout self.now.with_names (question_of question.now) self.now.profile.now) }
     {
         match question {
-            Question::Elect(rule, size, page) => {
-                let listing = Listing::new(self.profile, *size, page, self.with_names)?;
-                answer_election(alloc, out, *rule, &listing)
+            Question::Elect(asked) => {
+                let listing = Listing::new(self.profile, asked, self.with_names)?;
+                answer_election(alloc, out, asked.rule, &listing)
             }
             Question::Check(property, committee) => {
                 self.answer_check(out, *property, committee.as_slice())

@@ -19,7 +19,7 @@ use crate::refusal::RequestFault;
 use crate::starts::committee_start;
 use ballot_base::{CandSet, Profile, common_multiple};
 use itoa::Buffer;
-use request_words::{Page, Rule, ScoredRule};
+use request_words::{Electing, Rule, ScoredRule};
 use sequential_winners::{Families, FamilyWinners};
 use std::alloc::Allocator;
 use text_output::{Names, Printer, Sink, WriteFailed, write_pieces};
@@ -70,29 +70,28 @@ impl<'a, A: Allocator + Copy + Drop> Listing<'a, A> {
     /// committee of this size.
     pub(crate) fn new(
         profile: &'a Profile<A>,
-        size: u8,
-        page: &Page,
+        asked: &Electing,
         with_names: bool,
     ) -> Result<Listing<'a, A>, RequestFault>
-        requires least { 1 ≤ size }
-        requires most { size ≤ most_members }
-        ensures ok { IfOk result (λ listing. (rule : Rule)
-            → election_answer rule size (page_of page.now) with_names profile.now
-            ≡ answered (elect_text rule listing.size (record { after = listing.after; limit = listing.limit })
-            listing.names listing.profile.now)) }
-        ensures err { IfErr result (λ fault. (rule : Rule)
-            → election_answer rule size (page_of page.now) with_names profile.now
+        requires least { 1 ≤ asked.now.size }
+        requires most { asked.now.size ≤ most_members }
+        ensures ok { IfOk result (λ listing.
+            election_answer asked.now.rule asked.now.size (page_of asked.now.page) with_names profile.now
+            ≡ answered (elect_text asked.now.rule listing.size
+            (record { after = listing.after; limit = listing.limit }) listing.names listing.profile.now)) }
+        ensures err { IfErr result (λ fault.
+            election_answer asked.now.rule asked.now.size (page_of asked.now.page) with_names profile.now
             ≡ request_refused (request_fault_word fault)) }
     {
-        if size > profile.m() {
+        if asked.size > profile.m() {
             return Err(RequestFault::SizeTooLarge);
         }
-        let after = committee_start(page, profile.m(), size)?;
+        let after = committee_start(&asked.page, profile.m(), asked.size)?;
         Ok(Listing {
             profile,
-            size,
+            size: asked.size,
             after,
-            limit: page.limit,
+            limit: asked.page.limit,
             names: Names::of(profile, with_names),
         })
     }

@@ -21,7 +21,8 @@ pub mod storage;
 
 pub use ballot_base::BallotHashing;
 pub use request_words::{
-    LineFault, ListOption, Page, Question, Request, Rule, ScoredRule, Sharing, Task, read_request,
+    Electing, LineFault, ListOption, Page, Question, Request, Rule, ScoredRule, Sharing, Task,
+    read_request,
 };
 pub use run_request::{run, run_with_hashing};
 pub use status::Status;

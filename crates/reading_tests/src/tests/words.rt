@@ -8,9 +8,9 @@ use std::process::Abort;
 /// `·` in a word is a blank, and `''` is a word of no bytes.
 static LINES: &str = "\
 // Elections.
-elect --rule av --size 007 | Elect(Scored(Thiele(Av)), 7, | file: None
-elect a.cat --size=40 --rule=av | Elect(Scored(Thiele(Av)), 40, | file: Some(\"a.cat\")
-elect --size 3 --rule seqpav | Elect(Sequential(SeqPav), 3,
+elect --rule av --size 007 | Elect(Electing { rule: Scored(Thiele(Av)), size: 7, page: Page | file: None
+elect a.cat --size=40 --rule=av | Elect(Electing { rule: Scored(Thiele(Av)), size: 40, page: Page | file: Some(\"a.cat\")
+elect --size 3 --rule seqpav | Elect(Electing { rule: Sequential(SeqPav), size: 3, page: Page
 // Checks.
 check --property jr --committee 3,1 | Check(Jr, [3, 1]) | file: None
 check --property pjr --committee=007 | Check(Pjr, [7])

@@ -19,7 +19,7 @@ pub returns-in_ok-listing-in-Elect : goal.returns-in_ok-listing-in-Elect
 returns-in_ok-listing-in-Elect g c =
     let writes = Writes g.W.Sink.contents (calls_of g.W.Device.has_failed g.W.Sink.flushes) c.args.out.now c.answer_election.new.out c.answer_election.result in
     subst (λ question. writes (IsAnswerAbout c.args.self.now.with_names (question_of question) c.args.self.now.profile.now)) (sym c.in-Elect.is)
-    (writes_as (sym (c.in_ok-listing-in-Elect.ensures.ok c.in-Elect.rule)) c.answer_election.ensures)
+    (writes_as (sym c.in_ok-listing-in-Elect.ensures.ok) c.answer_election.ensures)
 
 pub returns-in-Share : goal.returns-in-Share
 returns-in-Share g c =
