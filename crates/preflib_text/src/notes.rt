@@ -166,14 +166,10 @@ impl Notes {
             m: m as u8,
             categories: self.categories,
         };
-        match read_ballot(line, header, pick.way) {
-            Ok(ballot) => {
-                let first = (!self.has_ballot).then_some(header.m);
-                self.has_ballot = true;
-                Ok(Effect::Ballot(Vote { first, ballot }))
-            }
-            Err(name) => Err(name),
-        }
+        let ballot = read_ballot(line, header, pick.way)?;
+        let first = (!self.has_ballot).then_some(header.m);
+        self.has_ballot = true;
+        Ok(Effect::Ballot(Vote { first, ballot }))
     }
 
     /// Reads a line, and returns what it does to the profile.
