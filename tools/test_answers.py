@@ -3,6 +3,7 @@ import contextlib
 import doctest
 import os
 import pathlib
+import signal
 import subprocess
 import sys
 import tempfile
@@ -21,6 +22,10 @@ BOARD = os.path.join(TOP, "examples", "board.cat")
 SONGS = os.path.join(TOP, "examples", "songs.soi")
 BALLOTS = [({1, 2, 3}, 7), ({4, 5}, 2), ({6}, 1)]
 UNFINISHED = "rule av\\nsize 1\\nscore 7/1\\n1\\n"
+
+
+# What a shell starts in the background ignores interrupts, and so would the programs that these tests start.
+signal.signal(signal.SIGINT, signal.default_int_handler)
 
 
 @contextlib.contextmanager

@@ -6,6 +6,7 @@ mod distances;
 mod families;
 mod groups;
 mod known;
+mod memory;
 mod multipliers;
 mod searches;
 mod shares;
