@@ -273,20 +273,16 @@ impl<'a> Majorants<'a> {
         majorant
     }
 
-    /// The majorant is exact at the mean number of hits if `left` of the free candidates are drawn at random. The
-    /// quadratic with the lowest mean bound entered as many sets.
+    /// The majorant is exact about the mean number of hits if `left` of the free candidates are drawn at random: at the
+    /// greatest number below it, and at one more. The quadratic with the lowest mean bound entered as many sets.
     fn made(&self, before: u8, approved: u8) -> Majorant
         requires { before + approved ≤ most_candidates }
         ensures { IsMajorantOf self.now.sums before (min self.now.left approved) result }
     {
         let most = self.left.min(approved);
-        let mean = usize::from(approved) * usize::from(self.left) / usize::from(self.free);
-        // After the last number of hits but two, a parabola would be a line.
-        let last = match self.shape {
-            Shape::Linear => most,
-            Shape::Quadratic => most.saturating_sub(2),
-        };
-        let touch = mean.min(usize::from(last)) as u8;
+        let hits = usize::from(approved) * usize::from(self.left);
+        let below = hits.saturating_sub(1) / usize::from(self.free);
+        let touch = below.min(usize::from(most)) as u8;
         Majorant::at(self.sums, before, most, touch, self.shape)
     }
 }

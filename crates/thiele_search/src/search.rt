@@ -137,15 +137,23 @@ impl<'a, A: Allocator + Copy> ThieleSearch<'a, A> {
         uses.note(self.by_majorants(node, least, Shape::Quadratic))
     }
 
-    /// Whether majorants of either shape show that no completion of the set of a node reaches the value. Only `true` is
-    /// certain.
-    pub(crate) fn falls_short(&self, node: &Node, least: u128) -> bool
-        requires is_node { IsNode self.now.election.m node.now.set node.now.free }
-        ensures { result ≡ true → IsOutOfReach (tally_value self.now) self.now.election.m node.now.set node.now.free
-            node.now.left least }
+    /// Whether majorants show that no completion of the set of a root reaches the value. Only `true` is certain.
+    pub(crate) fn falls_short(&self, root: &Node, least: u128) -> bool
+        requires is_node { IsNode self.now.election.m root.now.set root.now.free }
+        ensures { result ≡ true → IsOutOfReach (tally_value self.now) self.now.election.m root.now.set root.now.free
+            root.now.left least }
     {
-        self.by_majorants(node, least, Shape::Linear).is_none()
-            || self.by_majorants(node, least, Shape::Quadratic).is_none()
+        let uses = &self.aids.uses.roots;
+        uses.note(self.by_both_shapes(root, least)).is_none()
+    }
+
+    /// Like `eligible`, but by majorants of both shapes.
+    fn by_both_shapes(&self, node: &Node, least: u128) -> Option<CandSet>
+        requires is_node { IsNode self.now.election.m node.now.set node.now.free }
+        ensures { Narrows (tally_value self.now) self.now.election.m node.now least result }
+    {
+        self.by_majorants(node, least, Shape::Linear)?;
+        self.by_majorants(node, least, Shape::Quadratic)
     }
 
     /// Like `eligible`, but by majorants of a shape, if at least two seats are left.

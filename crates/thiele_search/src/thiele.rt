@@ -6,9 +6,7 @@ ghost use Rattle.ballot_base.specs.Limits.{most_members};
 ghost use Rattle.tie_walk.specs.Values.{tally_value, thiele_of, Thiele};
 ghost use Rattle.tie_walk.specs.Winners.{best_value};
 ghost use Rattle.tie_walk.specs.Ceilings.{ceiling};
-ghost use Rattle.row_multipliers.specs.Completions.{Finds};
-ghost use Rattle.tie_search.specs.Steps.Descent.{IsSearchedAt};
-ghost use Rattle.thiele_search.specs.Steps.Aided.{IsAided, IsMemoryFor, IsValued};
+ghost use Rattle.thiele_search.specs.Steps.Aided.{IsAided, IsMemoryFor};
 
 use crate::columns::Columns;
 use crate::dominance::Dominance;
@@ -21,7 +19,6 @@ use std::alloc::{AllocError, Allocator, Global};
 use std::cell::Cell;
 use std::marker::Model;
 use thiele_bounds::{HitSums, Priced};
-use tie_search::descent::GivenUp;
 use tie_search::{Searchable, Tied, WithClones, descent};
 use tie_walk::{Tally, ThieleTally};
 
@@ -73,10 +70,6 @@ fn rows_per_visit(rule: ThieleRule) -> usize
 {
     if rule == ThieleRule::Cc { 8 } else { 32 }
 }
-
-/// The number of sets of a short search. If a search lasts longer, bounds are worth counting that take as long as some
-/// sets. Any number is right.
-const SHORT_SEARCH: u64 = 64;
 
 /// A search among the committees of `k` under a Thiele rule. A value is the score times the common denominator of the
 /// rule's increments. Contracts see the election, the rule and `k`.
@@ -188,13 +181,15 @@ impl<'a, A: Allocator + Copy> Searchable for ThieleSearch<'a, A> {
 
     fn find(&self, node: &Node, least: u128) -> Option<CandSet> {
         // One winner after another is asked for, and most of these searches end after a few sets. With pairs, some
-        // party lists took six times as long.
-        self.counts_pairs.set(false);
-        self.moves.begin();
-        match descent::find_within(self, *node, least, SHORT_SEARCH) {
-            Ok(found) => found,
-            Err(GivenUp) => self.long_find(node, least),
+        // party lists took six times as long. So majorants come only where they help: in elections of grids, graphs and
+        // designs.
+        let help = self.aids.uses.roots.are_due();
+        if help && self.falls_short(node, least) {
+            return None;
         }
+        self.counts_pairs.set(help);
+        self.moves.begin();
+        descent::find(self, *node, least)
     }
 
     fn tied(&self, k: u8) -> Option<Tied> {
@@ -216,7 +211,8 @@ impl<'a, A: Allocator + Copy> Searchable for ThieleSearch<'a, A> {
                 return None;
             }
         } else if self.falls_short(&all, least.saturating_add(1)) {
-            // Prices do not show that no committee is better, so a list of more ties than it can have would not end.
+            // If more tie than a list can have, the search for a list goes on for those of a higher value. Prices do not
+            // show that there are none, so it might not end.
             return None;
         }
         // All winners took two to three times as long when each was searched for.
@@ -230,18 +226,5 @@ impl<'a, A: Allocator + Copy> ThieleSearch<'a, A> {
     fn is_best(&self, value: u128) -> bool {
         value == self.value(CandSet::all(self.m()))
             || matches!(&self.aids.priced, Some(priced) if priced.show_best)
-    }
-
-    /// Like `find`, for a search that is not short. Of grids, designs and graphs, majorants often show at once that
-    /// nothing is to be found.
-    fn long_find(&self, node: &Node, least: u128) -> Option<CandSet>
-        requires node { IsSearchedAt self.now.election.m (IsValued self.now) node.now }
-        ensures { Finds (tally_value self.now) self.now.election.m node.now least result }
-    {
-        if self.falls_short(node, least) {
-            return None;
-        }
-        self.counts_pairs.set(true);
-        descent::find(self, *node, least)
     }
 }

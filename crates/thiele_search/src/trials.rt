@@ -1,8 +1,9 @@
 //! Which tests of a set are worth making.
 //!
-//! Three tests may give up a set: how many voters its free candidates cover, prices of the whole election, and pairs.
-//! Which of them help depends on the ballots: prices shorten an election among neighbours, and seldom a random one. So
-//! a search counts how often each test gave up a set. Any test may be left out, so nothing is proved of these counts.
+//! Three tests may give up a set: how many voters its free candidates cover, prices of the whole election, and pairs. A
+//! fourth may give up the root of a search. Which of them help depends on the ballots: prices shorten an election among
+//! neighbours, and seldom a random one. So a search counts how often each test gave up a set. Any test may be left out,
+//! so nothing is proved of these counts.
 ghost use Rattle.std.specs.Prelude.{◌≡◌};
 
 use ballot_base::CandSet;
@@ -46,12 +47,22 @@ const PAIRS: Limits = Limits {
     sample: 256,
 };
 
+/// Majorants of both shapes take as long as hundreds of sets, so they have to help at the first root: that of the whole
+/// election. Asked for at the root of each question that is not answered after 64 sets, noise round one ballot took twice
+/// the instructions.
+const ROOTS: Limits = Limits {
+    begin: 0,
+    trials: 1,
+    sample: u32::MAX,
+};
+
 /// What is known of the use of each test.
 #[derive(Drop)]
 pub(crate) struct Uses {
     pub(crate) cover: Trials,
     pub(crate) prices: Trials,
     pub(crate) pairs: Trials,
+    pub(crate) roots: Trials,
 }
 
 impl Uses {
@@ -60,6 +71,7 @@ impl Uses {
             cover: Trials::none(QUICK),
             prices: Trials::none(QUICK),
             pairs: Trials::none(PAIRS),
+            roots: Trials::none(ROOTS),
         }
     }
 }
