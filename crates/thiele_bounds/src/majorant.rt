@@ -234,12 +234,7 @@ impl<'a> Model for Majorants<'a> {
 }
 
 impl<'a> Majorants<'a> {
-    pub(crate) fn new(
-        sums: &'a [u64; PLACES],
-        left: u8,
-        free: u8,
-        shape: Shape,
-    ) -> Majorants<'a>
+    pub(crate) fn new(sums: &'a [u64; PLACES], left: u8, free: u8, shape: Shape) -> Majorants<'a>
         requires some { 1 ≤ free }
         requires small { AreSmallSums sums.now }
         ensures sums { result.sums ≡ sums.now }

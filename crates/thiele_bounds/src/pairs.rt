@@ -91,8 +91,7 @@ impl<A: Allocator + Copy> PairSearch<'_, A> {
             totals.new.overlaps }
         ensures small { AreSmall totals.new }
     {
-        let mut majorants =
-            Majorants::new(&self.given.sums, node.left, node.free.len(), shape);
+        let mut majorants = Majorants::new(&self.given.sums, node.left, node.free.len(), shape);
         for (ballot, voters) in self.profile.ballots() {
             let approved = ballot.common(node.free);
             let before = ballot.common(node.set).len();
