@@ -112,5 +112,7 @@ fn lines_are_not_kept(rt: HostRuntime) {
     let heap = Measured::new(rt.alloc());
     let lines = old_lines(&rt, rt.alloc());
     assert_kept_by_reader(&rt, &heap, pick, lines.as_bytes());
-    assert!(rt; heap.usage.get().now == 0, "all is given back");
+    let usage = heap.usage.get();
+    assert!(rt; usage.now == 0, "all is given back");
+    assert!(rt; usage.most > 0, "the maximum is not forgotten");
 }
