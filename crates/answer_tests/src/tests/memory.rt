@@ -60,7 +60,7 @@ fn a_search_takes_its_memory_first(rt: HostRuntime) {
         let profile = different_ballots(&rt, &heap, *ballots);
         let before = count_from_here(&heap);
         let memory = SearchMemory::new(&heap, &profile, ThieleRule::Pav, SIZE).expect(&rt, "memory");
-        assert_taken(&rt, &heap, before, BALLOT * profile.rows() + BESIDE);
+        assert_taken(&rt, &heap, before, BALLOT.saturating_mul(profile.rows()).saturating_add(BESIDE));
         let before = count_from_here(&heap);
         let mut winners = SearchWinners::new(ThieleSearch::new(memory), SIZE, None);
         assert_of(&rt, winners.next().is_some(), "a winner", 0, 0);
@@ -75,7 +75,7 @@ fn a_minimax_search_takes_its_memory_first(rt: HostRuntime) {
         let profile = different_ballots(&rt, &heap, *ballots);
         let before = count_from_here(&heap);
         let search = MinimaxSearch::new(&heap, &profile).expect(&rt, "memory");
-        assert_taken(&rt, &heap, before, BALLOT * profile.rows());
+        assert_taken(&rt, &heap, before, BALLOT.saturating_mul(profile.rows()));
         let before = count_from_here(&heap);
         let mut winners = SearchWinners::new(search, SIZE, None);
         assert_of(&rt, winners.next().is_some(), "a winner", 0, 0);
