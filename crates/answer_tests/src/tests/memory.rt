@@ -50,7 +50,13 @@ fn count_from_here(heap: &Measured) -> usize {
 /// Asserts that at most this many bytes were taken since the count began.
 fn assert_taken(rt: &impl Abort, heap: &Measured, before: usize, most: usize) {
     let taken = heap.usage.get().most.saturating_sub(before);
-    assert_of(rt, taken <= most, "bytes taken", taken as u128, most as u128);
+    assert_of(
+        rt,
+        taken <= most,
+        "bytes taken",
+        taken as u128,
+        most as u128,
+    );
 }
 
 #[test]
@@ -59,8 +65,15 @@ fn a_search_takes_its_memory_first(rt: HostRuntime) {
     for ballots in &BALLOTS {
         let profile = different_ballots(&rt, &heap, *ballots);
         let before = count_from_here(&heap);
-        let memory = SearchMemory::new(&heap, &profile, ThieleRule::Pav, SIZE).expect(&rt, "memory");
-        assert_taken(&rt, &heap, before, BALLOT.saturating_mul(profile.rows()).saturating_add(BESIDE));
+        let memory = SearchMemory::new(&heap, &profile, ThieleRule::Pav, SIZE).expect(
+            &rt, "memory",
+        );
+        assert_taken(
+            &rt,
+            &heap,
+            before,
+            BALLOT.saturating_mul(profile.rows()).saturating_add(BESIDE),
+        );
         let before = count_from_here(&heap);
         let mut winners = SearchWinners::new(ThieleSearch::new(memory), SIZE, None);
         assert_of(&rt, winners.next().is_some(), "a winner", 0, 0);
