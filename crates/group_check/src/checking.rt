@@ -180,7 +180,7 @@ impl<A: Allocator + Copy> Search<'_, A> {
         if pool.len() < left {
             return None;
         }
-        // A list that begins with these members has at most this many voters.
+        // No list that begins with these members has more voters.
         if !self.is_enough(self.voters_around(shared, within, pool)) {
             return None;
         }
@@ -219,7 +219,7 @@ impl<A: Allocator + Copy> Search<'_, A> {
         self.is_enough(violation.voters).then_some(violation)
     }
 
-    /// Whether a group of this many voters is large enough for the level.
+    /// Whether a group of `voters` voters is large enough for the level.
     fn is_enough(&self, voters: u64) -> bool
         ensures { result ≡ is_large self.now.profile.now self.now.committee self.now.level voters }
     {

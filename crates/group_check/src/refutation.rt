@@ -16,7 +16,7 @@ use crate::property::Property;
 use ballot_base::{CandSet, Worths};
 use std::alloc::Allocator;
 
-/// A vote is split in parts of this many to the vote.
+/// The number of parts that a vote is split in.
 const UNITS: u128 = 1 << 20;
 
 /// Lists T and U as far as they are chosen: T consists of `shared` and `left` candidates of the pool, and U of `within`

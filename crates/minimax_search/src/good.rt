@@ -1,7 +1,7 @@
 //! A committee to begin with that is near the ballots. Members are exchanged for candidates on a farthest ballot, as
 //! long as each exchange leaves fewer ballots at this distance.
 //!
-//! Any committee is right, so nothing is proved of this one. Together with needs that are counted from one distance,
+//! Any committee works, so nothing is proved of this one. Together with needs that are counted from one distance,
 //! this beginning took 0.7 times the instructions in small elections.
 ghost use Rattle.std.specs.Prelude.{◌≤◌};
 ghost use Rattle.ballot_base.specs.Limits.{most_candidates};
@@ -9,7 +9,7 @@ ghost use Rattle.ballot_base.specs.Limits.{most_candidates};
 use ballot_base::{CandSet, Profile};
 use std::alloc::Allocator;
 
-/// The maximum number of exchanges. Any number is right.
+/// The maximum number of exchanges. Any number works.
 const MOST_EXCHANGES: u8 = 64;
 
 /// A committee of `k` that is near the ballots.

@@ -39,12 +39,12 @@ impl<'a, A: Allocator + Copy> Model for MinimaxSearch<'a, A> {
 }
 
 /// The work of a round that moves weights, in visits to a set. A round goes over all rows twice, and a visit often ends
-/// at one of the first. With 1, 20 random candidates and 10 seats took 37 % more instructions. Any number is right.
+/// at one of the first. With 1, 20 random candidates and 10 seats took 37 % more instructions. Any number works.
 const ROUND: u64 = 2;
 
 /// The number of sets of a short search. If a search lasts longer, a walk often finds sooner what is looked for. With
 /// 1,000, two of five elections in a square, with 64 candidates and 20 seats, took 3 and 13 times as long. Any number
-/// is right.
+/// works.
 const SHORT_SEARCH: u64 = 10_000;
 
 impl<'a, A: Allocator + Copy + Drop> MinimaxSearch<'a, A> {

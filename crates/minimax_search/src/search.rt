@@ -22,7 +22,7 @@ use tie_search::descent::{Narrowing, Plan};
 use tie_walk::{MinimaxTally, Tally};
 
 /// With fewer seats left than this, going through the sets takes less time than weighing needs, although weights rule
-/// out a third of the sets and more. Any number is right.
+/// out a third of the sets and more. Any number works.
 const FEWEST_SEATS: u8 = 4;
 
 /// With fewer candidates to try than this, going through the sets takes less time as well. With 1, elections of 16 to
@@ -108,7 +108,7 @@ impl<A: Allocator + Copy> MinimaxSearch<'_, A> {
                 rest = open;
             }
             let spare = open.len() - needed;
-            // Any ballot that needs a hit is right. A tight one leaves few candidates to try.
+            // Any ballot that needs a hit works. A tight one leaves few candidates to try.
             if spare < fewest || spare == fewest && needed > most_needed {
                 choices = open;
                 fewest = spare;

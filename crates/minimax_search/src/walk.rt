@@ -5,7 +5,7 @@
 //! numbers. The two that were exchanged last rest for a step, so that the walk does not go back (Glover, Tabu search,
 //! 1989).
 //!
-//! Any committee is right, so nothing is proved of these. An election of 44 voters with 34 seats took ten times as long
+//! Any committee works, so nothing is proved of these. An election of 44 voters with 34 seats took ten times as long
 //! without walks.
 
 use ballot_base::{CandSet, PLACES, Profile};
@@ -15,7 +15,7 @@ use std::alloc::Allocator;
 /// What a ballot's wish counts. Ties are broken by random numbers below it.
 const WISH: u64 = 1 << 16;
 
-/// The maximum number of steps. Any number is right.
+/// The maximum number of steps. Any number works.
 const MOST_STEPS: u16 = 1000;
 
 /// A committee on its way.

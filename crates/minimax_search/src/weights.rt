@@ -2,7 +2,7 @@
 //!
 //! All needs are added up, each with a weight. A set is given up if the sum exceeds what the best free candidates can
 //! give. A candidate leaves if every completion with it falls short (`laws::weighted_needs`; Glover, Surrogate
-//! constraints, 1968). Any weights are right. A ballot weighs by the share that it needs of its free candidates. If
+//! constraints, 1968). Any weights work. A ballot weighs by the share that it needs of its free candidates. If
 //! that pays, weights are moved instead (`row_multipliers::multipliers`). With weights by the share, 64 candidates and
 //! 20 seats did not end within 12 s if voters and candidates lie on a line. With moved ones they take 0.01 s.
 ghost use Rattle.std.specs.Prelude.{ℕ, ◌^◌, ◌≤◌, slice_index, ◌-◌};
@@ -34,7 +34,7 @@ const NODE: Effort = Effort {
 };
 
 /// A step aims at weighted needs that exceed the supports by the total divided by this. With 8, voters and candidates
-/// in a square took thirty times as long, and with 128, 60 random voters twenty times as long. Any number is right.
+/// in a square took thirty times as long, and with 128, 60 random voters twenty times as long. Any number works.
 const MARGIN: u128 = 32;
 
 /// Gaps are compared in parts of the total.
@@ -61,7 +61,7 @@ impl Shares {
     }
 
     /// The weight of a ballot that needs some of its free candidates: the need, times the cube of the share of these
-    /// candidates that it needs. Any weights are right. With the square of the need, 64 candidates, 32 seats and 20
+    /// candidates that it needs. Any weights work. With the square of the need, 64 candidates, 32 seats and 20
     /// voters took seven to twelve times as long.
     fn weight(&self, needed: u8, approved: CandSet) -> u64
         ensures { result ≤ 2 ^ 62 }
@@ -154,7 +154,7 @@ impl<A: Allocator + Copy> RowBound for NeedSearch<'_, A> {
         let excess = constraint.excess(best);
         Gap {
             size: excess.saturating_mul(GAP_PARTS) / constraint.due.max(1),
-            way: excess.saturating_add(constraint.due / MARGIN),
+            closing_step: excess.saturating_add(constraint.due / MARGIN),
         }
     }
 

@@ -1,6 +1,6 @@
 //! Where it pays to move the multipliers of a bound.
 //!
-//! A bound over rows has a multiplier for each row. Any multipliers are right, and some rounds over the rows can move
+//! A bound over rows has a multiplier for each row. Any multipliers work, and some rounds over the rows can move
 //! them so that the bound ends a node. A round costs work. So a search counts what moves achieve and what they cost, by
 //! the number of seats left, and moves where they save work. Nothing is proved of these counts.
 ghost use Rattle.std.specs.Prelude.{⊤};
@@ -19,7 +19,7 @@ const PARTS: u64 = 1024;
 /// The maximum that a move achieves if candidates only leave: seven tenths.
 const MOST_OF_LEAVING: u64 = PARTS * 7 / 10;
 
-/// Multipliers are first moved after the work of this many rounds over the rows. Shorter searches end sooner without.
+/// The work before multipliers are first moved, in rounds over the rows. Shorter searches end sooner without.
 const BEGINNING: u64 = 384;
 
 /// The number of moves, for a number of seats left, before it is judged whether they pay.
@@ -33,14 +33,14 @@ const MOVES_BEFORE_DOUBT: u64 = 48;
 /// with a quarter, 64 popular candidates took twice as many under `geom4`.
 const LEAST_ACHIEVED: u64 = PARTS / 6;
 
-/// At one of this many nodes nothing is moved, so that the work below it is seen. Seen at nodes that moves had not
-/// ended, it was too high, and 40 random candidates took fifteen times as long under `cc`.
+/// One node in this number is left alone, to measure the work below it. Measured at nodes that moves had not ended, it
+/// was too high, and 40 random candidates took fifteen times as long under `cc`.
 const LEFT_ALONE: u32 = 16;
 
 /// There is a level for each number of seats left.
 const LEVELS: usize = MOST_MEMBERS as usize + 1;
 
-/// A mean is of about this many numbers, the last ones, so that old ones are forgotten.
+/// About how many of the last numbers a mean is of, so that old ones are forgotten.
 const MEMORY: u64 = 50;
 
 /// What moves of multipliers achieve, and what they cost, by the number of seats left. With more than `MOST_MEMBERS`
@@ -64,7 +64,7 @@ impl Model for Moves {
 }
 
 impl Moves {
-    /// Nothing was moved yet. The work of a round over the rows is that of this many visits.
+    /// Nothing was moved yet. A round over the rows is as much work as `round` visits.
     pub fn new(round: u64) -> Moves {
         Moves {
             round,

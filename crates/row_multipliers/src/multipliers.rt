@@ -4,7 +4,7 @@
 //! A bound over the rows of an election has a multiplier for each row. In each round, the multiplier of a row rises if
 //! the candidates of the highest worths hit its ballot less often than they should, and falls if more often. One array
 //! has the multipliers of a whole search. They are changed in place and never restored when the search goes back: any
-//! multipliers are right, and the last ones are a good beginning for the next node. Nothing but their range is proved.
+//! multipliers work, and the last ones are a good beginning for the next node. Nothing but their range is proved.
 ghost use Rattle.std.specs.Prelude.{◌≡◌, ℕ, List, ◌≤◌, IfOk, length};
 ghost use Rattle.ballot_base.specs.Limits.{most_candidates};
 ghost use Rattle.row_multipliers.specs.Completions.{IsNode};
@@ -34,7 +34,7 @@ const ROUNDS_BETWEEN: u16 = 3;
 const LEAST_FALL: u128 = 8192;
 
 /// With a limit of the gap, the number of rounds after which a gap of more than twice the limit ends the moving. No gap
-/// was seen that was so large then and within the limit after `SECOND_DOUBT`. Without this, small random elections took
+/// this large ever came within the limit by `SECOND_DOUBT`. Without this, small random elections took
 /// up to a tenth more instructions.
 const FIRST_DOUBT: u16 = 30;
 
@@ -68,7 +68,8 @@ pub struct Effort {
     pub goes_back: bool,
 }
 
-/// What all completions of a node bring that reach a value.
+/// A bound of a node. For each completion that reaches the value, `paid` plus the worths of the candidates that join is
+/// at least `due`.
 #[derive(Drop)]
 pub struct Constraint {
     /// What is there without the candidates that join.
@@ -115,8 +116,8 @@ impl Constraint {
 pub struct Gap {
     /// In a unit that is the same in all rounds.
     pub size: u128,
-    /// How far a step goes that closes the gap.
-    pub way: u128,
+    /// The length of a step that closes the gap.
+    pub closing_step: u128,
 }
 
 /// A bound over the rows of an election, with a multiplier for each row.
@@ -200,7 +201,7 @@ pub struct Wanted {
 }
 
 impl Wanted {
-    /// How many hits a row with this many lacks; below 0 if it has too many.
+    /// How many hits a row with `hits` of them lacks; below 0 if it has too many.
     fn lacking(self, hits: u8) -> i32 {
         let nearest = hits.max(self.fewest).min(self.most);
         i32::from(nearest) - i32::from(hits)
@@ -229,11 +230,11 @@ impl Multiplier {
     }
 
     fn moved(self, length: u64) -> Multiplier {
-        let way = length.saturating_mul(u64::from(self.direction.unsigned_abs()));
+        let distance = length.saturating_mul(u64::from(self.direction.unsigned_abs()));
         let now = if self.direction > 0 {
-            self.now.saturating_add(way).min(MOST_MOVED)
+            self.now.saturating_add(distance).min(MOST_MOVED)
         } else {
-            self.now.saturating_sub(way)
+            self.now.saturating_sub(distance)
         };
         Multiplier { now, ..self }
     }
@@ -252,7 +253,7 @@ impl<A: Allocator> Model for Multipliers<A> {
 }
 
 impl<A: Allocator + Copy + Drop> Multipliers<A> {
-    /// Takes memory for this many rows: 24 bytes each. All begin with this multiplier.
+    /// Takes 24 bytes of memory for each row. All rows begin with the same multiplier.
     pub fn of(alloc: A, rows: usize, first: u64) -> Result<Multipliers<A>, AllocError>
         ensures { IfOk result (λ multipliers. multipliers ≡ rows) }
     {
@@ -291,7 +292,7 @@ impl<A: Allocator> Multipliers<A> {
         }
     }
 
-    /// Turns the direction of a row with this many hits to those that it wants. Returns the square of the direction,
+    /// Turns the direction of a row with `hits` hits to those that it wants. Returns the square of the direction,
     /// or 0 if the multiplier is 0 and would fall.
     pub fn aim(&self, row: usize, hits: u8) -> u64 {
         let Some(row) = self.rows.get(row) else {
@@ -434,7 +435,7 @@ impl Progress {
     fn length(&self, gap: Gap, square: u128) -> u64
         requires { 1 ≤ square }
     {
-        let part = gap.way.saturating_mul(u128::from(self.pace)) / u128::from(WHOLE);
+        let part = gap.closing_step.saturating_mul(u128::from(self.pace)) / u128::from(WHOLE);
         let length = part.saturating_mul(HIT as u128) / square;
         length.min(u128::from(u64::MAX)) as u64
     }

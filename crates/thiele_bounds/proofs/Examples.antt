@@ -1,24 +1,24 @@
 -- The definitions of prices and of pairs, worked out by hand.
 use Rattle.std.proofs.Common.{◌≡◌, ◌/◌, zero, suc, [], ◌∷◌, refl, length, lit≤, arith}
-use Rattle.thiele_bounds.specs.Pairs.{IsMajorant, all_kept, all_overlap, all_worth, pair_sum, row_sum, worth_beside}
-use Rattle.thiele_bounds.specs.Prices.{IsKept}
+use Rattle.thiele_bounds.specs.Pairs.{IsMajorant, all_constants, all_overlap, all_worth, pair_sum, row_sum, worth_beside}
+use Rattle.thiele_bounds.specs.Prices.{IsLinearMajorant}
 
 -- ---- prices: under proportional approval voting, in sixths, a voter gives 6 for a hit, 3 more for a second and 2 more
 -- for a third, and each hit costs 4
 
 -- a voter without a hit yet keeps 2, with one hit
-kept-first : IsKept (6 ∷ 3 ∷ 2 ∷ []) 1 1 0 2 2 4
-kept-first zero few = lit≤ tt
-kept-first (suc zero) few = lit≤ tt
-kept-first (suc (suc zero)) few = lit≤ tt
-kept-first (suc (suc (suc h))) few = absurd (omega (arith, few))
+constant-first : IsLinearMajorant (6 ∷ 3 ∷ 2 ∷ []) 1 1 0 2 2 4
+constant-first zero few = lit≤ tt
+constant-first (suc zero) few = lit≤ tt
+constant-first (suc (suc zero)) few = lit≤ tt
+constant-first (suc (suc (suc h))) few = absurd (omega (arith, few))
 
 -- a voter with a hit keeps the 6 of that
-kept-second : IsKept (6 ∷ 3 ∷ 2 ∷ []) 1 1 1 2 6 4
-kept-second zero few = lit≤ tt
-kept-second (suc zero) few = lit≤ tt
-kept-second (suc (suc zero)) few = lit≤ tt
-kept-second (suc (suc (suc h))) few = absurd (omega (arith, few))
+constant-second : IsLinearMajorant (6 ∷ 3 ∷ 2 ∷ []) 1 1 1 2 6 4
+constant-second zero few = lit≤ tt
+constant-second (suc zero) few = lit≤ tt
+constant-second (suc (suc zero)) few = lit≤ tt
+constant-second (suc (suc (suc h))) few = absurd (omega (arith, few))
 
 -- the price of 2, if it costs the two voters who approve 1 and 2 3 each, and the one who approves 2 alone 6
 price-two : all_worth (λ row. 6 / length row.0) ((1 ∷ 2 ∷ [], 2) ∷ (2 ∷ [], 1) ∷ []) 2 ≡ 12
@@ -36,8 +36,8 @@ majorant-three (suc (suc (suc zero))) few = lit≤ tt
 majorant-three (suc (suc (suc (suc h)))) few = absurd (omega (arith, few))
 
 -- two voters approve 1 and 2, with the worth 7 and the overlap 1, and one voter approves 2
-kept-pairs : all_kept (λ row. length row.0) ((1 ∷ 2 ∷ [], 2) ∷ (2 ∷ [], 1) ∷ []) ≡ 5
-kept-pairs = refl
+constant-pairs : all_constants (λ row. length row.0) ((1 ∷ 2 ∷ [], 2) ∷ (2 ∷ [], 1) ∷ []) ≡ 5
+constant-pairs = refl
 
 worth-pairs : all_worth (λ row. 7) ((1 ∷ 2 ∷ [], 2) ∷ (2 ∷ [], 1) ∷ []) 2 ≡ 21
 worth-pairs = refl

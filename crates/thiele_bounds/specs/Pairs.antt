@@ -6,16 +6,16 @@ use Rattle.ballot_base.specs.Ballots.{Row}
 use Rattle.ballot_base.specs.CandSet.{without_member}
 use Rattle.tie_walk.specs.Sequences.{supporters}
 
--- kept + worth * h - overlap * h * h is at least what h hits after the first `before` give in all, for h up to `most`:
+-- constant + worth * h - overlap * h * h is at least what h hits after the first `before` give in all, for h up to `most`:
 -- times the scale, in units
 abbrev pub IsMajorant : List ℕ → ℕ → ℕ → ℕ → ℕ → ℕ → ℕ → ℕ → Type 0
-IsMajorant weights scale unit before most kept worth overlap =
+IsMajorant weights scale unit before most constant worth overlap =
     (h : ℕ) → h ≤ most
-    → scale * sum (take (before + h) weights) + unit * (overlap * (h * h)) ≤ unit * (kept + worth * h)
+    → scale * sum (take (before + h) weights) + unit * (overlap * (h * h)) ≤ unit * (constant + worth * h)
 
 -- what all voters keep
-abbrev pub all_kept : (Row → ℕ) → List Row → ℕ
-all_kept kept rows = sum_by (λ row. row.1 * kept row) rows
+abbrev pub all_constants : (Row → ℕ) → List Row → ℕ
+all_constants constant rows = sum_by (λ row. row.1 * constant row) rows
 
 -- the worths of all voters who approve the candidate
 abbrev pub all_worth : (Row → ℕ) → List Row → ℕ → ℕ

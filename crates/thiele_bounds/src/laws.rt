@@ -6,21 +6,21 @@ ghost use Rattle.ballot_base.specs.Lists.{IsIncreasing};
 ghost use Rattle.ballot_base.specs.CandSet.{common_members, has_member};
 ghost use Rattle.tie_walk.specs.Values.{thiele_value};
 ghost use Rattle.row_multipliers.specs.Completions.{IsNode, IsCompletion};
-ghost use Rattle.thiele_bounds.specs.Pairs.{IsMajorant, all_kept, all_overlap, all_worth, pair_sum, row_sum};
-ghost use Rattle.thiele_bounds.specs.Prices.{IsKept};
+ghost use Rattle.thiele_bounds.specs.Pairs.{IsMajorant, all_constants, all_overlap, all_worth, pair_sum, row_sum};
+ghost use Rattle.thiele_bounds.specs.Prices.{IsLinearMajorant};
 
 /// A majorant for each row bounds what its voters give, by the hits among the added members. Summed over the rows, no
 /// committee is worth more than what all voters keep and the worths of the added members, less the overlaps of all
-/// ordered pairs of them, also of each with itself. Any numbers that make majorants are right.
+/// ordered pairs of them, also of each with itself. Any numbers that make majorants work.
 pub fn pairs()
-    ensures { (weights : List ℕ) (scale unit m : ℕ) (kept worth overlap : Row → ℕ) (rows : List Row)
+    ensures { (weights : List ℕ) (scale unit m : ℕ) (constant worth overlap : Row → ℕ) (rows : List Row)
         (set free : List ℕ) (left : ℕ) (committee : List ℕ) → AllByRecursion (λ row. IsIncreasing 1 m row.0) rows
         → IsNode m set free → IsCompletion m set free left committee
         → AllByRecursion (λ row. IsMajorant weights scale unit (hits row.0 set) (min left (hits row.0 free))
-        (kept row) (worth row) (overlap row)) rows
+        (constant row) (worth row) (overlap row)) rows
         → scale * thiele_value weights rows committee
         + unit * pair_sum (all_overlap overlap rows) (common_members free committee)
-        ≤ unit * (all_kept kept rows + sum_by (all_worth worth rows) (common_members free committee)) }
+        ≤ unit * (all_constants constant rows + sum_by (all_worth worth rows) (common_members free committee)) }
 {}
 
 /// Row sums bound worths less overlaps. The row of a member has its own worth and that of each other member beside it,
@@ -41,11 +41,11 @@ pub fn row_sums()
 /// sum of the multipliers of the voters who approve it. No completion is worth more than what all voters keep and the
 /// prices of the added members.
 pub fn prices()
-    ensures { (weights : List ℕ) (scale unit m : ℕ) (kept multiplier : Row → ℕ) (rows : List Row)
+    ensures { (weights : List ℕ) (scale unit m : ℕ) (constant multiplier : Row → ℕ) (rows : List Row)
         (set free : List ℕ) (left : ℕ) (committee : List ℕ) → AllByRecursion (λ row. IsIncreasing 1 m row.0) rows
         → IsNode m set free → IsCompletion m set free left committee
-        → AllByRecursion (λ row. IsKept weights scale unit (hits row.0 set) (min left (hits row.0 free))
-        (kept row) (multiplier row)) rows
+        → AllByRecursion (λ row. IsLinearMajorant weights scale unit (hits row.0 set) (min left (hits row.0 free))
+        (constant row) (multiplier row)) rows
         → scale * thiele_value weights rows committee
-        ≤ unit * (all_kept kept rows + sum_by (all_worth multiplier rows) (common_members free committee)) }
+        ≤ unit * (all_constants constant rows + sum_by (all_worth multiplier rows) (common_members free committee)) }
 {}

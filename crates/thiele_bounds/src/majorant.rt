@@ -1,8 +1,8 @@
 //! Concave quadratic majorants of what a voter gives.
 //!
-//! For h hits after the first ones, a voter gives at most `kept + worth * h - overlap * h * h`. Since h * h is the
+//! For h hits after the first ones, a voter gives at most `constant + worth * h - overlap * h * h`. Since h * h is the
 //! number of ordered pairs of members that the voter approves, majorants see where members overlap. Any `worth` and
-//! `overlap` are right, as `kept` is made as high as it must be.
+//! `overlap` work, as `constant` is made as high as it must be.
 ghost use Rattle.std.specs.Prelude.{◌≡◌, ℕ, ◌+◌, ◌*◌, ◌^◌, ◌≤◌, min, slice_index, MatchOption, ⊤};
 ghost use Rattle.ballot_base.specs.Limits.{most_candidates, most_members, most_voters};
 ghost use Rattle.ballot_base.specs.Increments.{increments};
@@ -14,10 +14,10 @@ use ballot_base::{Increments, PLACES, ThieleRule};
 use row_multipliers::multipliers::Wanted;
 use std::marker::Model;
 
-/// The overlaps of all voters together have at most this many units, if the first hit gives a 64th of it or less.
+/// The maximum units of the overlaps of all voters together, if the first hit gives a 64th of it or less.
 const MOST_FIRST_UNITS: u128 = 1 << 52;
 
-/// The first hit of one of few voters gives this many units in sums for majorants.
+/// With fewer voters, units are as with this number.
 const FEW_VOTERS: u64 = 1 << 12;
 
 /// The number of units that the first hit gives in sums for majorants, as many as fit: 2^40 for up to 4,096 voters, and
@@ -32,7 +32,7 @@ fn pair_units(voters: u64) -> u128
     MOST_FIRST_UNITS / u128::from(voters.max(FEW_VOTERS))
 }
 
-/// All hits of a voter together give at most this many times the first one.
+/// The maximum that all hits of a voter give together, in first hits.
 const MOST_FIRST_HITS: u128 = 64;
 
 /// What each number of hits gives in all: times the scale, in units. What each hit adds is rounded up, and no hit adds
@@ -50,7 +50,7 @@ pub struct HitSums {
 }
 
 impl HitSums {
-    /// The sums for majorants under a rule, of an election with this many voters. Returns `None` only if a hit added
+    /// The sums for majorants under a rule, of an election with `voters` voters. Returns `None` only if a hit added
     /// more than the one before it, as under no rule.
     pub fn for_pairs(rule: ThieleRule, k: u8, voters: u64) -> Option<HitSums>
         requires some { 1 ≤ k }
@@ -111,7 +111,7 @@ impl HitSums {
     /// The maximum that a voter gives for the first `before` hits and up to `most` further ones, less the multiplier
     /// for each further hit, and the numbers of further hits with which that is so. No hit gives more than the one
     /// before it, so the first that gives too little ends the count.
-    pub(crate) fn kept(&self, before: u8, most: u8, multiplier: u64) -> (u64, Wanted)
+    pub(crate) fn constant(&self, before: u8, most: u8, multiplier: u64) -> (u64, Wanted)
         requires fits { before + most ≤ most_candidates }
         requires multiplier { multiplier ≤ most_given }
         ensures bounds { (h : ℕ) → h ≤ most
@@ -130,8 +130,8 @@ impl HitSums {
                 fewest = hits;
             }
         }
-        let kept = self.sums[usize::from(before + hits)] - multiplier * u64::from(hits);
-        (kept, Wanted { fewest, most: hits })
+        let constant = self.sums[usize::from(before + hits)] - multiplier * u64::from(hits);
+        (constant, Wanted { fewest, most: hits })
     }
 
     /// A value in units. Every value with fewer units is lower.
@@ -142,10 +142,10 @@ impl HitSums {
     }
 }
 
-/// An upper bound on what a voter gives for h further hits: `kept + worth * h - overlap * h * h`.
+/// An upper bound on what a voter gives for h further hits: `constant + worth * h - overlap * h * h`.
 #[derive(Clone, Copy)]
 pub(crate) struct Majorant {
-    pub(crate) kept: u64,
+    pub(crate) constant: u64,
     pub(crate) worth: u64,
     pub(crate) overlap: u64,
 }
@@ -192,13 +192,13 @@ impl Majorant {
         };
         let overlap = fall.min(step);
         let worth = step + overlap * (2 * u64::from(touch) + 1);
-        let mut kept = 0;
+        let mut constant = 0;
         for hits in 0..usize::from(most) + 1 {
             let given = sums[first + hits] + overlap * (hits * hits) as u64;
-            kept = given.saturating_sub(worth * hits as u64).max(kept);
+            constant = given.saturating_sub(worth * hits as u64).max(constant);
         }
         Majorant {
-            kept,
+            constant,
             worth,
             overlap,
         }

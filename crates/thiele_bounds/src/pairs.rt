@@ -30,7 +30,7 @@ type Table = [u64; TABLE_PLACES];
 /// The majorants of all voters, added up.
 #[derive(Drop)]
 struct Totals {
-    kept: u128,
+    constant: u128,
     // For each free candidate, the worths of all voters who approve it.
     worths: Worths,
     // For each pair of free candidates, the overlaps of all voters who approve both.
@@ -60,7 +60,7 @@ impl<A: Allocator + Copy> PairSearch<'_, A> {
             return None;
         }
         let mut totals = Totals {
-            kept: 0,
+            constant: 0,
             worths: Worths::none(),
             overlaps: [0; TABLE_PLACES],
         };
@@ -80,14 +80,14 @@ impl<A: Allocator + Copy> PairSearch<'_, A> {
             .saturating_mul(factor)
             .saturating_add(u128::from(left) * u128::from(left) * raise);
         rows.sums()
-            .members_for(free, left, due.saturating_sub(factor * totals.kept))
+            .members_for(free, left, due.saturating_sub(factor * totals.constant))
     }
 
     fn add_ballots(&self, totals: &mut Totals, node: &Node, shape: Shape)
         requires is_node { IsNode self.now.profile.now.m node.now.set node.now.free }
         requires some { 1 ≤ length node.now.free }
-        requires nothing { AreNothing totals.old.kept totals.old.worths totals.old.overlaps }
-        ensures totals { BoundNode self.now.given.now self.now.profile.now node.now totals.new.kept totals.new.worths
+        requires nothing { AreNothing totals.old.constant totals.old.worths totals.old.overlaps }
+        ensures totals { BoundNode self.now.given.now self.now.profile.now node.now totals.new.constant totals.new.worths
             totals.new.overlaps }
         ensures small { AreSmall totals.new }
     {
@@ -108,7 +108,7 @@ impl Totals {
         requires majorant { IsSmallMajorant most_given majorant }
         requires overlap { voters * majorant.overlap ≤ most_overlap }
         requires small { AreSmall self.old }
-        ensures kept { self.new.kept ≡ self.old.kept + voters * majorant.kept }
+        ensures constant { self.new.constant ≡ self.old.constant + voters * majorant.constant }
         ensures worths { (n : ℕ) → slice_index self.new.worths n ≡ slice_index self.old.worths n
             + (if has_member approved n then voters * majorant.worth else 0) }
         ensures overlaps { (i j : ℕ) → j ≤ most_candidates → overlap_at self.new.overlaps i j
@@ -116,7 +116,7 @@ impl Totals {
             + (if has_member approved i then (if has_member approved j then voters * majorant.overlap else 0) else 0) }
     {
         let count = u128::from(voters);
-        self.kept += count * u128::from(majorant.kept);
+        self.constant += count * u128::from(majorant.constant);
         self.worths
             .add(approved, count * u128::from(majorant.worth));
         if majorant.overlap > 0 {

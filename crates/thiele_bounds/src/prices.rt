@@ -1,10 +1,10 @@
 //! Prices of candidates: a bound that needs no gains.
 //!
-//! Choose any multiplier for each row. A voter then gives a completion of a set at most what is kept, and the
-//! multiplier for each hit after those at the set. What is kept is a maximum over the numbers of hits that the node
-//! allows: what the hits give, less the multiplier for each further hit. Summed over the voters, no completion of the
-//! set is worth more than what all keep and the prices of the candidates that join (`laws::prices`; Fisher, The
-//! Lagrangian relaxation method for solving integer programming problems, 1981).
+//! Choose any multiplier for each row. A voter then gives a completion of a set at most a constant, and the multiplier
+//! for each hit after those at the set. The constant is a maximum over the numbers of hits that the node allows: what
+//! the hits give, less the multiplier for each further hit. Summed over the voters, no completion of the set is worth
+//! more than all constants and the prices of the candidates that join (`laws::prices`; Fisher, The Lagrangian
+//! relaxation method for solving integer programming problems, 1981).
 //!
 //! The multipliers are moved (`row_multipliers::multipliers`). With prices of the whole election only, five parties
 //! with noise, 64 candidates and 10 seats took 8 s and not 0.8 s under `pav`.
@@ -26,14 +26,14 @@ use row_multipliers::multipliers::{self, Constraint, Effort, Gap, Multipliers, R
 use std::alloc::Allocator;
 use tie_walk::{Tally, ThieleTally};
 
-/// The first hit gives about this many units: enough that rounding matters little.
+/// The units of the first hit, about: enough that rounding matters little.
 const UNITS: u128 = 1 << 40;
 
 /// Multipliers of a whole search go on moving only if the gap is at most the value divided by this. Ballots that were
 /// drawn independently leave more, whatever the multipliers; small elections of these took 0.02 s longer.
 const LARGE_GAP: u128 = 64;
 
-/// For a node.
+/// The effort at a node.
 pub const NODE: Effort = Effort {
     rounds: 15,
     pace: 410,
@@ -43,10 +43,10 @@ pub const NODE: Effort = Effort {
     goes_back: true,
 };
 
-/// For the same node after a candidate was tried and left.
+/// The effort at the same node after a candidate has left.
 pub const AGAIN: Effort = Effort { rounds: 4, ..NODE };
 
-/// For a whole search, once, if committees of this value in units are looked for.
+/// The effort for a whole search, once, if committees of a value of `units` units are looked for.
 fn root(units: u128) -> Effort {
     Effort {
         rounds: 600,
@@ -73,7 +73,7 @@ pub struct PriceSearch<'a, A: Allocator + Copy> {
 /// What all voters keep at a node, and the price of each free candidate, in units.
 #[derive(Drop)]
 pub struct Prices {
-    pub kept: u128,
+    pub constant: u128,
     pub worths: Worths,
 }
 
@@ -81,12 +81,12 @@ impl<A: Allocator + Copy> PriceSearch<'_, A> {
     /// The prices at a node, by the present multipliers.
     fn prices(&self, node: &Node) -> Prices
         requires is_node { IsNode self.now.tally.now.election.m node.now.set node.now.free }
-        ensures totals { BoundNode self.now.given.now self.now.tally.now.election node.now result.kept
+        ensures totals { BoundNode self.now.given.now self.now.tally.now.election node.now result.constant
             result.worths [] }
-        ensures kept { result.kept ≤ most_priced }
+        ensures constant { result.constant ≤ most_priced }
         ensures worths { (n : ℕ) → slice_index result.worths n ≤ most_priced }
     {
-        let mut kept = 0;
+        let mut constant = 0;
         let mut worths = Worths::none();
         let profile = self.tally.profile();
         for i in 0..profile.rows() {
@@ -96,12 +96,12 @@ impl<A: Allocator + Copy> PriceSearch<'_, A> {
             let most = node.left.min(approved.len());
             let multiplier = self.multiplier(i, before, most);
             let count = u128::from(voters);
-            let (given, wanted) = self.given.kept(before, most, multiplier);
+            let (given, wanted) = self.given.constant(before, most, multiplier);
             self.multipliers.want(i, wanted);
-            kept += count * u128::from(given);
+            constant += count * u128::from(given);
             worths.add(approved, count * u128::from(multiplier));
         }
-        Prices { kept, worths }
+        Prices { constant, worths }
     }
 
     /// The multiplier of row i, which has `before` hits and can have up to `most` more. It is first moved between what
@@ -135,9 +135,9 @@ impl<A: Allocator + Copy> RowBound for PriceSearch<'_, A> {
     ghost least = { λ search. search.least };
 
     fn constraint(&self, node: &Node) -> Constraint {
-        let Prices { kept, worths } = self.prices(node);
+        let Prices { constant, worths } = self.prices(node);
         Constraint {
-            paid: kept,
+            paid: constant,
             due: self.given.units(self.least),
             worths,
         }
@@ -147,7 +147,7 @@ impl<A: Allocator + Copy> RowBound for PriceSearch<'_, A> {
         let excess = constraint.excess(best);
         Gap {
             size: excess,
-            way: excess.saturating_add(1),
+            closing_step: excess.saturating_add(1),
         }
     }
 
@@ -228,8 +228,8 @@ impl<A: Allocator + Copy> Priced<A> {
         if u16::from(node.set.len()) + u16::from(node.left) != u16::from(self.k) {
             return Some(node.free);
         }
-        let Prices { kept, worths } = &self.whole;
-        let paid = kept.saturating_add(worths.excess(node.set, 0));
+        let Prices { constant, worths } = &self.whole;
+        let paid = constant.saturating_add(worths.excess(node.set, 0));
         let due = self.given.units(least).saturating_sub(paid);
         worths.members_for(node.free, node.left, due)
     }

@@ -3,7 +3,7 @@ use Rattle.std.proofs.Common.{◌≡◌, ℕ, ◌+◌, ◌-◌, ◌^◌, ◌≤�
 use Rattle.std.proofs.lemmas.List.{append-nil}
 use Rattle.std.proofs.Math.Bool.{or-false, or_comm}
 use Rattle.std.proofs.lemmas.List.Folds.{list_any-append}
-use Rattle.ballot_base.specs.Limits.{most_members}
+use Rattle.ballot_base.specs.Limits.{most_members, most_thiele_value, most_increments}
 use Rattle.std.specs.Prelude.{MatchOption}
 use Rattle.ballot_base.specs.CandSet.{common_members, has_member, with_member}
 use Rattle.ballot_base.specs.Worths.{AreTooLow, AreWanted}
@@ -25,15 +25,15 @@ use Rattle.thiele_bounds.proofs.PairBounds.PairLemmas.{sum-less}
 use Rattle.thiele_search.proofs.WholeLemmas.{thiele-same, value-with}
 
 -- no value is too large to add to
-value-most : (tally : Thiele) (set : List ℕ) → IsElection tally.election → tally.k ≤ most_members → tally_value tally set ≤ 2 ^ 116
+value-most : (tally : Thiele) (set : List ℕ) → IsElection tally.election → tally.k ≤ most_members → tally_value tally set ≤ most_thiele_value
 value-most tally set valid size =
     omega (
       arith,
-      thiele-most tally.election (increments tally.rule tally.k) set (2 ^ 84) valid
+      thiele-most tally.election (increments tally.rule tally.k) set most_increments valid
           (λ x. omega (arith, sum-take-le (increments tally.rule tally.k) x, increments_sum-most tally.rule tally.k size)),
     )
 
-pub valued-small : (tally : Thiele) (set : List ℕ) (value : ℕ) → IsValued tally set value → value ≤ 2 ^ 116
+pub valued-small : (tally : Thiele) (set : List ℕ) (value : ℕ) → IsValued tally set value → value ≤ most_thiele_value
 valued-small tally set value is = omega (arith, is.value_is, value-most tally set is.election is.size)
 
 -- the value and a gain are the value of a larger set

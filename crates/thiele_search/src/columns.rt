@@ -12,7 +12,7 @@ ghost use Rattle.ballot_base.specs.Limits.{most_candidates, most_members};
 ghost use Rattle.ballot_base.specs.Ballots.{hits, voter_count};
 ghost use Rattle.ballot_base.specs.CandSet.{has_member};
 ghost use Rattle.tie_walk.specs.Values.{thiele_of};
-ghost use Rattle.thiele_search.specs.Steps.Columns.{AreAdded, block_voters, most_blocks, total, shared, given, approves_some, IsBlock, AreByHits, AreColumns, AreColumnsOf, AreRising, AreWeights, voters_of, voter_ballot, word_before};
+ghost use Rattle.thiele_search.specs.Steps.Columns.{AreAdded, block_voters, most_blocks, total, shared, given, approves_some, IsBlock, AreByHits, AreColumns, AreColumnsOf, AreRising, AreWeights, voters_of, voter_ballot, word_before, column_limit};
 
 use ballot_base::{CandSet, Increments, MOST_MEMBERS, PLACES, Profile, ThieleRule, Worths};
 use std::alloc::{AllocError, Allocator};
@@ -33,7 +33,7 @@ const LARGE_WEIGHT: u128 = 1 << 44;
 /// For each candidate, at its number, which of 64 voters approve it.
 type Block = [u64; PLACES];
 
-/// What a voter gives for each hit, the first at 0.
+/// The weight of each hit; the first is at index 0.
 type Weights = [u64; MOST_MEMBERS as usize];
 
 /// Moves the voters who approve a further member on by one hit.
@@ -225,7 +225,7 @@ impl<A: Allocator> Columns<A> {
     /// Adds to the gains of the free candidates what the voters of a block give. No voter has more hits than the set
     /// has members.
     fn add_block(&self, gains: &mut Worths, block: &Block, set: CandSet, free: CandSet)
-        requires { (c : ℕ) → slice_index gains.old c < 2 ^ 106 }
+        requires { (c : ℕ) → slice_index gains.old c < column_limit }
         ensures sum { (ballot_at : ℕ → List ℕ) → IsBlock ballot_at block.now
             → AreAdded self.now.weights set free ballot_at gains.old gains.new }
         ensures most { (c : ℕ) → slice_index gains.new c ≤ slice_index gains.old c + most_members * 2 ^ 50 }
@@ -247,7 +247,7 @@ impl<A: Allocator> Columns<A> {
     /// word for each number of hits, random elections took a quarter more instructions.
     fn add_first_hits(&self, gains: &mut Worths, block: &Block, set: CandSet, free: CandSet)
         requires first { self.now.levels ≡ 1 }
-        requires fits { (c : ℕ) → slice_index gains.old c < 2 ^ 106 }
+        requires fits { (c : ℕ) → slice_index gains.old c < column_limit }
         ensures sum { (ballot_at : ℕ → List ℕ) → IsBlock ballot_at block.now
             → AreAdded self.now.weights set free ballot_at gains.old gains.new }
         ensures most { (c : ℕ) → slice_index gains.new c ≤ slice_index gains.old c + most_members * 2 ^ 50 }

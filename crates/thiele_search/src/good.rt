@@ -1,6 +1,6 @@
 //! A good committee to begin with. It grows by the highest gains, and exchanges of members make it better.
 //!
-//! Any committee is right, so it is only proved that its members are candidates of the election.
+//! Any committee works, so it is only proved that its members are candidates of the election.
 ghost use Rattle.std.specs.Prelude.{◌≤◌};
 ghost use Rattle.ballot_base.specs.Limits.{most_candidates};
 ghost use Rattle.ballot_base.specs.Lists.{IsIncreasing};
@@ -10,7 +10,7 @@ use ballot_base::CandSet;
 use std::alloc::Allocator;
 use tie_walk::Tally;
 
-/// The maximum number of passes over the members of a committee. Any limit is right, and few passes are needed.
+/// The maximum number of passes over the members of a committee. Any limit works, and few passes are needed.
 const MOST_PASSES: u8 = 64;
 
 impl<A: Allocator + Copy> ThieleSearch<'_, A> {

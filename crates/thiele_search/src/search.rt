@@ -237,8 +237,8 @@ impl<'a, A: Allocator + Copy> Narrowing for ThieleSearch<'a, A> {
             free: node.free.without(next),
             left: node.left - 1,
         };
-        let kept = self.promising(&plan.worths, &child, plan.least);
-        let free = kept.unwrap_or(CandSet::empty());
+        let promising = self.promising(&plan.worths, &child, plan.least);
+        let free = promising.unwrap_or(CandSet::empty());
         Node { free, ..child }
     }
 }

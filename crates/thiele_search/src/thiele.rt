@@ -211,8 +211,8 @@ impl<'a, A: Allocator + Copy> Searchable for ThieleSearch<'a, A> {
                 return None;
             }
         } else if self.falls_short(&all, least.saturating_add(1)) {
-            // If more tie than a list can have, the search for a list goes on for those of a higher value. Prices do not
-            // show that there are none, so it might not end.
+            // If more tie than a list can have, the search for a list goes on for those of a higher value. Prices do
+            // not show that there are none, so it might not end.
             return None;
         }
         // All winners took two to three times as long when each was searched for.
@@ -222,7 +222,7 @@ impl<'a, A: Allocator + Copy> Searchable for ThieleSearch<'a, A> {
 }
 
 impl<'a, A: Allocator + Copy> ThieleSearch<'a, A> {
-    /// Whether the good committee, which has this value, is known to be the best. Any answer is right.
+    /// Whether the good committee, which has this value, is known to be the best. Any answer works.
     fn is_best(&self, value: u128) -> bool {
         value == self.value(CandSet::all(self.m()))
             || matches!(&self.aids.priced, Some(priced) if priced.show_best)

@@ -14,7 +14,7 @@ use std::cell::Cell;
 pub(crate) const FEW_SEATS: u8 = 5;
 
 /// How many more times a test is made for each set that it gave up. Of random ballots, pairs give up one set in three,
-/// and of voters who approve who is near one in fourteen.
+/// and of voters who approve nearby candidates one in fourteen.
 const TRIALS_FOR_HELP: u32 = 4;
 
 /// The maximum number of times that a test is made without help.
@@ -27,7 +27,7 @@ struct Limits {
     begin: u32,
     /// The number of times that the test is made before it has to help.
     trials: u32,
-    /// If the test does not help, it is made for one of this many sets, so that its use is judged anew.
+    /// If the test does not help, it is made for one set in this number, so that its use is judged anew.
     sample: u32,
 }
 
@@ -48,8 +48,8 @@ const PAIRS: Limits = Limits {
 };
 
 /// Majorants of both shapes take as long as hundreds of sets, so they have to help at the first root: that of the whole
-/// election. Asked for at the root of each question that is not answered after 64 sets, noise round one ballot took twice
-/// the instructions.
+/// election. Asked for at the root of each question that is not answered after 64 sets, noise round one ballot took
+/// twice the instructions.
 const ROOTS: Limits = Limits {
     begin: 0,
     trials: 1,

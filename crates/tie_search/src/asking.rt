@@ -11,10 +11,10 @@ ghost use Rattle.std.specs.Prelude.{◌≡◌, ◌+◌, ◌≤◌, ◌∷◌, []
 ghost use Rattle.ballot_base.specs.Limits.{most_candidates};
 ghost use Rattle.ballot_base.specs.Lists.{IsIncreasing};
 ghost use Rattle.tie_search.specs.Steps.Branches.{AreAskedIn, IsAskingIn, IsOnTheWayIn, IsStepFrom, IsStepIn};
-ghost use Rattle.tie_search.specs.Steps.Branches.{KnowsBest, first_branches};
+ghost use Rattle.tie_search.specs.Steps.Branches.{IsOracle, first_branches};
 
-use crate::best::Best;
 use crate::branch::Branch;
+use crate::oracle::Oracle;
 use crate::searchable::Searchable;
 use arrayvec::ArrayVec;
 use ballot_base::{CandSet, PLACES};
@@ -32,8 +32,8 @@ pub(crate) struct Asking {
 }
 
 impl Asking {
-    /// The winners later than the start, or all winners if there is no start. `found` is one of the winners. Nothing was
-    /// asked yet.
+    /// The winners later than the start, or all winners if there is no start. `found` is one of the winners. Nothing
+    /// was asked yet.
     pub(crate) fn begin(after: &Option<CandSet>, m: u8, found: CandSet) -> Asking
         requires most { m ≤ most_candidates }
         requires start { MatchOption after.now ⊤ (IsIncreasing 1 m) }
@@ -65,33 +65,33 @@ impl Asking {
     }
 
     /// The first of the winners still to come, or `None` if none is left.
-    pub(crate) fn next<S: Searchable>(&mut self, best: &Best<S>) -> Option<CandSet>
-        requires knows { KnowsBest S.value_of S.class_of S.candidates best.now }
-        requires asking { IsAskingIn S.value_of S.candidates best.now self.old }
-        ensures asking { IsAskingIn S.value_of S.candidates best.now self.new }
-        ensures step { IsStepIn S.value_of S.candidates best.now self.old (option_to_list result) self.new }
+    pub(crate) fn next<S: Searchable>(&mut self, oracle: &Oracle<S>) -> Option<CandSet>
+        requires knows { IsOracle S.value_of S.class_of S.candidates oracle.now }
+        requires asking { IsAskingIn S.value_of S.candidates oracle.now self.old }
+        ensures asking { IsAskingIn S.value_of S.candidates oracle.now self.new }
+        ensures step { IsStepIn S.value_of S.candidates oracle.now self.old (option_to_list result) self.new }
         ensures end { result ≡ None → self.new.branches.items ≡ [] }
-        ensures asked { AreAskedIn S.candidates best.now self.old (option_to_list result) self.new }
+        ensures asked { AreAskedIn S.candidates oracle.now self.old (option_to_list result) self.new }
     {
         while let Some(branch) = self.branches.pop() {
-            if let Some(winner) = best.ask(&branch, self.found, &mut self.asked) {
+            if let Some(winner) = oracle.ask(&branch, self.found, &mut self.asked) {
                 self.found = winner;
-                return Some(self.first_of(best, branch));
+                return Some(self.first_of(oracle, branch));
             }
         }
         None
     }
 
     /// The first winner that completes a branch. The winner that was found last must complete it.
-    fn first_of<S: Searchable>(&mut self, best: &Best<S>, mut branch: Branch) -> CandSet
-        requires knows { KnowsBest S.value_of S.class_of S.candidates best.now }
-        requires way { IsOnTheWayIn S.value_of S.candidates best.now self.old branch }
-        ensures asking { IsAskingIn S.value_of S.candidates best.now self.new }
-        ensures step { IsStepFrom S.value_of S.candidates best.now self.old branch (result ∷ []) self.new }
+    fn first_of<S: Searchable>(&mut self, oracle: &Oracle<S>, mut branch: Branch) -> CandSet
+        requires knows { IsOracle S.value_of S.class_of S.candidates oracle.now }
+        requires way { IsOnTheWayIn S.value_of S.candidates oracle.now self.old branch }
+        ensures asking { IsAskingIn S.value_of S.candidates oracle.now self.new }
+        ensures step { IsStepFrom S.value_of S.candidates oracle.now self.old branch (result ∷ []) self.new }
         ensures rises { self.old.asked ≤ self.new.asked }
         ensures asked { self.new.asked ≤ self.old.asked + length branch.free }
     {
-        while branch.set.len() < best.k {
+        while branch.set.len() < oracle.k {
             let Some(parts) = branch.free.split_first() else {
                 return branch.set;
             };
@@ -101,14 +101,14 @@ impl Asking {
                 set: branch.set.with(next),
                 free: others,
             };
-            if let Some(winner) = best.ask(&with, self.found, &mut self.asked) {
+            if let Some(winner) = oracle.ask(&with, self.found, &mut self.asked) {
                 self.found = winner;
                 self.branches.push(branch);
                 // No other step counts sets.
                 self.entered += 1;
                 branch = with;
             } else {
-                branch.free = others.minus(best.search.clones().class(next));
+                branch.free = others.minus(oracle.search.clones().class(next));
             }
         }
         branch.set

@@ -5,6 +5,7 @@
 //! only higher values still count. A candidate that was tried with a set is no longer free to join it, so no committee
 //! is met twice.
 ghost use Rattle.std.specs.Prelude.{◌≡◌, ℕ, ◌^◌, ◌<◌, ◌≤◌, List, MatchOption};
+ghost use Rattle.ballot_base.specs.Limits.{most_thiele_value};
 ghost use Rattle.tie_search.specs.Steps.Found.{Advances, AreListed, IsListed, IsSettled};
 
 use ballot_base::CandSet;
@@ -43,7 +44,7 @@ pub struct Found {
 }
 
 impl Found {
-    /// Nothing was found yet. Committees of at least the value `least` are looked for.
+    /// An empty result of a search for committees worth at least `least`.
     pub fn nothing(wanted: Wanted, least: u128) -> Found
         ensures wanted { result.wanted ≡ wanted }
         ensures least { result.least ≡ least }
@@ -67,7 +68,7 @@ impl Found {
 
     /// Takes a committee that is not listed yet, if its value is looked for. The value is at most 2^116.
     pub fn offer(&mut self, committee: CandSet, value: u128)
-        requires small { value ≤ 2 ^ 116 }
+        requires small { value ≤ most_thiele_value }
         requires new { IsListed self.old committee → ⊥ }
         ensures advances { (value_of : List ℕ → ℕ) → value_of committee ≡ value → AreListed value_of self.old
             → Advances value_of (λ other. other ≡ committee) self.old self.new }

@@ -12,10 +12,10 @@
 #![tactic(auto)]
 
 mod asking;
-mod best;
 mod branch;
 pub mod descent;
 pub mod found;
+mod oracle;
 pub mod searchable;
 pub mod winners;
 

@@ -28,7 +28,7 @@ pub trait WithClones: Tally {
 
 /// Values of committees. A committee of at least a given value can be searched for.
 pub trait Searchable: WithClones {
-    /// A good committee of `k` to begin with. Any committee is right; the better it is, the less is searched.
+    /// A good committee of `k` to begin with. Any committee works; the better it is, the less is searched.
     fn good_committee(&self, k: u8) -> Option<CandSet>
         requires some { 1 ≤ k }
         requires fits { k ≤ Self.candidates self.now }

@@ -1,6 +1,6 @@
 //! The winners by search, one by one.
 //!
-//! `new` finds the highest value (module `best`). `next` asks for each winner (module `asking`), so no walk goes over
+//! `new` finds the highest value (module `oracle`). `next` asks for each winner (module `asking`), so no walk goes over
 //! committees that do not win. `entered` and `questions` count the steps; only tests read them.
 ghost use Rattle.std.specs.Prelude.{◌≡◌, ◌≤◌};
 ghost use Rattle.std.specs.Iterator.{item_count};
@@ -10,7 +10,7 @@ ghost use Rattle.tie_search.specs.Asked.{Asked, IsNextAsked, beginnings, most_qu
 ghost use Rattle.tie_search.specs.Steps.Branches.{IsListing, left_by};
 
 use crate::asking::Asking;
-use crate::best::{Best, best_committees};
+use crate::oracle::{Oracle, best_committees};
 use crate::searchable::Searchable;
 use ballot_base::CandSet;
 use std::marker::Model;
@@ -20,7 +20,7 @@ use std::marker::Model;
 /// (Lackner and Skowron, Multi-Winner Voting with Approval Preferences)
 #[derive(Drop)]
 pub struct SearchWinners<S: Searchable> {
-    best: Best<S>,
+    oracle: Oracle<S>,
     asking: Asking,
     after: Option<CandSet>,
 }
@@ -29,15 +29,15 @@ impl<S: Searchable> Model for SearchWinners<S> {
     ghost Value = { Asked S };
 
     ghost view = { λ w. record {
-      search = w.best.search;
-      k = w.best.k;
+      search = w.oracle.search;
+      k = w.oracle.k;
       after = w.after;
-      left = left_by (S.value_of w.best.search) (S.candidates w.best.search) w.best.k w.asking.branches.items;
+      left = left_by (S.value_of w.oracle.search) (S.candidates w.oracle.search) w.oracle.k w.asking.branches.items;
       entered = w.asking.entered;
       questions = w.asking.asked;
     } };
 
-    ghost invariant = { λ w. IsListing S.value_of S.class_of S.candidates w.best w.after w.asking };
+    ghost invariant = { λ w. IsListing S.value_of S.class_of S.candidates w.oracle w.after w.asking };
 }
 
 impl<S: Searchable> SearchWinners<S> {
@@ -60,7 +60,7 @@ impl<S: Searchable> SearchWinners<S> {
         let found = tied.committees[0];
         SearchWinners {
             asking: Asking::begin(&after, m, found),
-            best: Best {
+            oracle: Oracle {
                 value: search.value(found),
                 search,
                 m,
@@ -75,7 +75,7 @@ impl<S: Searchable> SearchWinners<S> {
     pub fn best(&self) -> u128
         ensures { result ≡ best_value (S.value_of self.now.search) (S.candidates self.now.search) self.now.k }
     {
-        self.best.value
+        self.oracle.value
     }
 
     /// The number of sets that were entered so far on the ways down to winners. A set counts when a candidate joins it.
@@ -108,6 +108,6 @@ impl<S: Searchable + Drop> Iterator for SearchWinners<S> {
     ghost remaining = { item_count (λ (a : Asked S). a.left) };
 
     fn next(&mut self) -> Option<CandSet> {
-        self.asking.next(&self.best)
+        self.asking.next(&self.oracle)
     }
 }

@@ -4,7 +4,7 @@ use Rattle.std.proofs.Common.{◌≡◌, ℕ, zero, suc, ◌+◌, ◌-◌, ◌*�
 use Rattle.std.proofs.lemmas.Bool.{cases_eq, eq-eqb, ne_eqb}
 use Rattle.std.proofs.lemmas.List.Sums.{sum_by-cons, count_by-le-length}
 use Rattle.std.proofs.Math.Nat.{mul-le-mul_right, div-mul-le_self}
-use Rattle.ballot_base.specs.Limits.{most_candidates, most_members}
+use Rattle.ballot_base.specs.Limits.{most_candidates, most_members, most_score, most_thiele_value, most_increments}
 use Rattle.ballot_base.specs.Lists.{IsIncreasing}
 use Rattle.ballot_base.specs.CandSet.{has_member, with_member}
 use Rattle.ballot_base.specs.CommonMultiple.{common_multiple}
@@ -104,7 +104,7 @@ satisfaction-ceiling e shares scores c left set valid up is are =
 -- ---- how large they are
 
 module _ (shares : List ℕ) (x : ℕ) (small : (n : ℕ) → get_or shares n 0 ≤ 2 ^ 90 - 1) where
-  pub score-most : (e : Election) → IsElection e → score shares e.rows x ≤ 2 ^ 122 - 2 ^ 32
+  pub score-most : (e : Election) → IsElection e → score shares e.rows x ≤ most_score
   score-most e valid = omega (arith, score-whole shares e.rows x, all-most (given shares x) e (2 ^ 90 - 1) valid (λ r h. omega (arith, small (length r.0), part-most (has_member r.0 x) (get_or shares (length r.0) 0))))
 
   pub score-more : (rows : List Row) (i : ℕ) (row : Row) → slice_get rows i ≡ Some row
@@ -114,7 +114,7 @@ module _ (shares : List ℕ) (x : ℕ) (small : (n : ℕ) → get_or shares n 0 
 
   -- the sum so far and what the next row's voters give
   pub score-fits : (e : Election) (i : ℕ) (row : Row) → IsElection e → slice_get e.rows i ≡ Some row
-      → sum_by (λ (r : Row). r.1 * given shares x r) (take i e.rows) + row.1 * get_or shares (length row.0) 0 ≤ 2 ^ 122 - 2 ^ 32
+      → sum_by (λ (r : Row). r.1 * given shares x r) (take i e.rows) + row.1 * get_or shares (length row.0) 0 ≤ most_score
   score-fits e i row valid found =
       omega (
         arith,
@@ -132,7 +132,7 @@ voter-most e shares set (x ∷ ballot, voters) valid is up =
     grind (arith, common_steps, parts-at, length-increasing, mul-le-mul_right, count_by-le-length, div-mul-le_self, common_multiple_small)
 
 -- what all voters give
-pub satisfaction-most : (e : Election) (shares set : List ℕ) → IsElection e → shares ≡ parts (common_multiple e.m) → satisfaction_value e.m e.rows set ≤ 2 ^ 122 - 2 ^ 32
+pub satisfaction-most : (e : Election) (shares set : List ℕ) → IsElection e → shares ≡ parts (common_multiple e.m) → satisfaction_value e.m e.rows set ≤ most_score
 satisfaction-most e shares set valid is =
     omega (
       arith,
@@ -158,11 +158,11 @@ satisfaction-nothing e shares valid is = sym (satisfaction_value-by_parts e.m e.
 
 -- value and gains fit in 128 bits
 pub satisfaction-fits : (e : Election) (shares set : List ℕ) (c left value more : ℕ) → IsElection e → shares ≡ parts (common_multiple e.m) → IsIncreasing 1 c set → c ≤ e.m → left ≤ e.m - c
-    → value ≡ satisfaction_value e.m e.rows set → more ≤ left * (2 ^ 122 - 2 ^ 32) → value + more < 2 ^ 128
+    → value ≡ satisfaction_value e.m e.rows set → more ≤ left * most_score → value + more < 2 ^ 128
 satisfaction-fits e shares set zero left value more valid is up within few are most =
     let empty : set ≡ [] = none set up in
     let size : left ≤ 64 = omega (arith, few, valid.most) in
-    let product : left * (2 ^ 122 - 2 ^ 32) ≤ 64 * (2 ^ 122 - 2 ^ 32) = mul-le-mul_right (2 ^ 122 - 2 ^ 32) size in
+    let product : left * most_score ≤ 64 * most_score = mul-le-mul_right most_score size in
     omega (arith, product, most, are, ap (satisfaction_value e.m e.rows) empty, satisfaction-nothing e shares valid is)
   where
     none : (s : List ℕ) → IsIncreasing 1 0 s → s ≡ []
@@ -180,18 +180,18 @@ pub thiele-most : (e : Election) (w set : List ℕ) (most : ℕ) → IsElection 
 thiele-most e w set most valid all = all-most (λ (r : Row). sum (take (hits r.0 set) w)) e most valid (λ r up. all (hits r.0 set))
 
 -- no increment is greater than all of them together
-pub weights-small : (rule : ThieleRule) (k : ℕ) (w : List ℕ) (i : ℕ) → k ≤ most_members → w ≡ increments rule k → get_or w i 0 ≤ 2 ^ 84
+pub weights-small : (rule : ThieleRule) (k : ℕ) (w : List ℕ) (i : ℕ) → k ≤ most_members → w ≡ increments rule k → get_or w i 0 ≤ most_increments
 weights-small rule k w i few is = omega (arith, ap (λ l. get_or l i 0) is, weight-le-sum (increments rule k) i, increments_sum-most rule k few)
 
 -- value and gains fit in 128 bits
 pub thiele-fits : (e : Election) (rule : ThieleRule) (k c left value more : ℕ) (set : List ℕ) → IsElection e → k ≤ most_members → left ≤ e.m - c
-    → value ≡ thiele_value (increments rule k) e.rows set → more ≤ left * 2 ^ 116 → value + more < 2 ^ 128
+    → value ≡ thiele_value (increments rule k) e.rows set → more ≤ left * most_thiele_value → value + more < 2 ^ 128
 thiele-fits e rule k c left value more set valid small few are most =
     let size : left ≤ 64 = omega (arith, few, valid.most) in
-    let product : left * 2 ^ 116 ≤ 64 * 2 ^ 116 = mul-le-mul_right (2 ^ 116) size in
+    let product : left * most_thiele_value ≤ 64 * most_thiele_value = mul-le-mul_right most_thiele_value size in
     omega (
       arith,
-      thiele-most e (increments rule k) set (2 ^ 84) valid (λ x. omega (arith, sum-take-le (increments rule k) x, increments_sum-most rule k small)),
+      thiele-most e (increments rule k) set most_increments valid (λ x. omega (arith, sum-take-le (increments rule k) x, increments_sum-most rule k small)),
     )
 
 pub thiele-nothing : (w : List ℕ) (rows : List Row) → thiele_value w rows [] ≡ 0

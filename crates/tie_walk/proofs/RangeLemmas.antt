@@ -6,7 +6,7 @@ use Rattle.std.specs.List.{range_with_len}
 use Rattle.std.proofs.Math.Nat.{div-mul-le_self, le-div_iff_mul-le, mul-le-mul_right, pow-le-pow_left, pow-le-pow_right}
 use Rattle.std.proofs.lemmas.Bool.{leb-true}
 use Rattle.std.proofs.lemmas.List.Sums.{sum-map, sum_by-le-sum_by}
-use Rattle.ballot_base.specs.Limits.{most_members, most_voters}
+use Rattle.ballot_base.specs.Limits.{most_members, most_voters, most_thiele_value}
 use Rattle.ballot_base.specs.Lists.{IsIncreasing}
 use Rattle.ballot_base.specs.CommonMultiple.{common_multiple}
 use Rattle.ballot_base.specs.Increments.{increment, increments, denominator}
@@ -135,7 +135,7 @@ proportional-ceiling e k c set left valid small inside up fits =
     omega (arith, thiele-ceiling_most Pav e k c set left valid small inside up fits, common_multiple_most k most_members small, members_small)
 
 pub thiele-ceiling : (rule : ThieleRule) (e : Election) (k c : ℕ) (set : List ℕ) (left : ℕ) → IsElection e → k ≤ most_members → c ≤ e.m → IsIncreasing 1 c set
-    → left ≤ e.m - c → ceiling (thiele_value (increments rule k) e.rows) e.m c set left ≤ 2 ^ 116
+    → left ≤ e.m - c → ceiling (thiele_value (increments rule k) e.rows) e.m c set left ≤ most_thiele_value
 thiele-ceiling rule e k c set left valid small inside up fits =
     omega (arith, thiele-ceiling_most rule e k c set left valid small inside up fits, denominator-most rule k small)
 

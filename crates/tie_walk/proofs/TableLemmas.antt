@@ -6,7 +6,7 @@ use Rattle.std.proofs.lemmas.Bool.{cases_lt}
 use Rattle.std.proofs.lemmas.List.{ext_get_or, get_or_past, take_all}
 use Rattle.std.proofs.lemmas.List.FromFn.{get_or-map-range_with_len, length-map-range_with_len}
 use Rattle.std.proofs.lemmas.List.Sums.{sum_by-take-le}
-use Rattle.ballot_base.specs.Limits.{most_candidates, most_members}
+use Rattle.ballot_base.specs.Limits.{most_candidates, most_members, most_increments}
 use Rattle.ballot_base.specs.Increments.{increments}
 use Rattle.ballot_base.specs.declared.increments.ThieleRule.{ThieleRule}
 use Rattle.ballot_base.proofs.WeightLemmas.{members-most, denominator-most, increments-length, sum_take_more}
@@ -30,7 +30,7 @@ prefix_sums-made weights sums long made =
 pub sum-take-le : (weights : List ℕ) (x : ℕ) → sum (take x weights) ≤ sum weights
 sum-take-le weights x = sum_by-take-le (λ n. n) weights x
 
-pub increments_sum-most : (rule : ThieleRule) (k : ℕ) → k ≤ most_members → sum (increments rule k) ≤ 2 ^ 84
+pub increments_sum-most : (rule : ThieleRule) (k : ℕ) → k ≤ most_members → sum (increments rule k) ≤ most_increments
 increments_sum-most rule k most =
     let all : take most_members (increments rule k) ≡ increments rule k = take_all most_members (increments rule k) (omega (arith, increments-length rule k)) in
     omega (arith, rw all at (members-most rule k most_members most (omega arith)), denominator-most rule k most)

@@ -1,7 +1,7 @@
 //! Laws of the definitions. Each function does nothing, and its contract is the law.
 ghost use Rattle.std.specs.Prelude.{◌≡◌, ◌≢◌, ℕ, ◌+◌, ◌-◌, ◌*◌, ◌^◌, ◌<◌, ◌≤◌, ◌↔◌, List, [], ◌∷◌, ◌++◌, Option, Some, length, fold, take, slice_index, IsTrue, Contains, AllPairs};
 ghost use Rattle.std.specs.List.{AllByRecursion, range_with_len};
-ghost use Rattle.ballot_base.specs.Limits.{most_members};
+ghost use Rattle.ballot_base.specs.Limits.{most_members, most_thiele_value};
 ghost use Rattle.ballot_base.specs.Increments.{increments};
 ghost use Rattle.ballot_base.specs.Ballots.{Row, Election, IsElection};
 ghost use Rattle.ballot_base.specs.Lists.{IsIncreasing, increasing_lists, AreInOrder, later_than};
@@ -141,7 +141,7 @@ pub fn ceiling_ranges()
         → ceiling (thiele_value (increments ThieleRule.Pav k) e.rows) e.m c set left < 2 ^ 91 }
     ensures thiele { (rule : ThieleRule) (e : Election) (k c : ℕ) (set : List ℕ) (left : ℕ) → IsElection e
         → k ≤ most_members → c ≤ e.m → IsIncreasing 1 c set → left ≤ e.m - c
-        → ceiling (thiele_value (increments rule k) e.rows) e.m c set left ≤ 2 ^ 116 }
+        → ceiling (thiele_value (increments rule k) e.rows) e.m c set left ≤ most_thiele_value }
     ensures satisfaction { (e : Election) (c : ℕ) (set : List ℕ) (left : ℕ) → IsElection e
         → c ≤ e.m → IsIncreasing 1 c set → left ≤ e.m - c
         → ceiling (satisfaction_value e.m e.rows) e.m c set left < 2 ^ 122 }

@@ -1,7 +1,7 @@
 //! The values of Thiele's rules: one pass over the rows, with a table that is made once. The bound of a prefix is the
 //! value of its set plus the highest gains at it, since gains only fall as a committee grows.
 ghost use Rattle.std.specs.Prelude.{◌≡◌, ℕ, ◌^◌, ◌≤◌, true, slice_index};
-ghost use Rattle.ballot_base.specs.Limits.{most_members};
+ghost use Rattle.ballot_base.specs.Limits.{most_members, most_thiele_value};
 ghost use Rattle.ballot_base.specs.CandSet.{has_member};
 ghost use Rattle.ballot_base.specs.Increments.{increments};
 ghost use Rattle.tie_walk.specs.Ceilings.{IsTight, ceiling};
@@ -83,7 +83,7 @@ impl<'a, A: Allocator + Copy> ThieleTally<'a, A> {
     pub fn gains(&self, set: CandSet, others: CandSet) -> Worths
         ensures gains { (n : ℕ) → has_member others n ≡ true → slice_index result n
             ≡ gain (increments self.now.rule self.now.k) self.now.election.rows set n }
-        ensures small { (n : ℕ) → slice_index result n ≤ 2 ^ 116 }
+        ensures small { (n : ℕ) → slice_index result n ≤ most_thiele_value }
     {
         let mut gains = Worths::none();
         for (ballot, voters) in self.profile.ballots() {

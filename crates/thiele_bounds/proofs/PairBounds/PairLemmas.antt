@@ -11,7 +11,7 @@ use Rattle.ballot_base.proofs.Increasing.{IsIncreasing-filter, has_member-below,
 use Rattle.tie_walk.specs.Sequences.{supporters}
 use Rattle.tie_walk.specs.Values.{thiele_value}
 use Rattle.row_multipliers.specs.Completions.{IsNode, IsCompletion}
-use Rattle.thiele_bounds.specs.Pairs.{IsMajorant, all_kept, all_worth, all_overlap, pair_sum, worth_beside, row_sum}
+use Rattle.thiele_bounds.specs.Pairs.{IsMajorant, all_constants, all_worth, all_overlap, pair_sum, worth_beside, row_sum}
 use Rattle.row_multipliers.proofs.CompletionLemmas.{added, added-free, added-increasing, added-size, completion-members, hits-same, member-without}
 use Rattle.row_multipliers.proofs.HitLemmas.{hits-append, hits-more, hits-turned}
 use Rattle.row_multipliers.proofs.SearchLemmas.{sum-among, sum-threshold}
@@ -210,13 +210,13 @@ overlap-cons f row rows i j = by (has_member row.0 i)
     by false = omega arith
 
 -- the voters of one row, with h hits among those who join
-pub voters-bound : (scale unit voters given kept worth overlap h : ℕ) → scale * given + unit * (overlap * (h * h)) ≤ unit * (kept + worth * h)
-    → scale * (voters * given) + unit * (voters * overlap * (h * h)) ≤ unit * (voters * kept + voters * worth * h)
-voters-bound scale unit voters given kept worth overlap h one =
-    let all : voters * (scale * given + unit * (overlap * (h * h))) ≤ voters * (unit * (kept + worth * h)) = mul-le-mul_left voters one in
+pub voters-bound : (scale unit voters given constant worth overlap h : ℕ) → scale * given + unit * (overlap * (h * h)) ≤ unit * (constant + worth * h)
+    → scale * (voters * given) + unit * (voters * overlap * (h * h)) ≤ unit * (voters * constant + voters * worth * h)
+voters-bound scale unit voters given constant worth overlap h one =
+    let all : voters * (scale * given + unit * (overlap * (h * h))) ≤ voters * (unit * (constant + worth * h)) = mul-le-mul_left voters one in
     let low : (a b c d e f : ℕ) → a * (b * c + d * (e * (f * f))) ≡ b * (a * c) + d * (a * e * (f * f)) = λ a b c d e f. omega arith in
     let top : (a d k w f : ℕ) → a * (d * (k + w * f)) ≡ d * (a * k + a * w * f) = λ a d k w f. omega arith in
-    omega (arith, all, low voters scale given unit overlap h, top voters unit kept worth h)
+    omega (arith, all, low voters scale given unit overlap h, top voters unit constant worth h)
 
 module _ (weights : List ℕ) (scale unit m : ℕ) (set free : List ℕ) (left : ℕ) (committee : List ℕ) (is_node : IsNode m set free) (whole : IsCompletion m set free left committee) where
   -- who joins
@@ -247,20 +247,20 @@ module _ (weights : List ℕ) (scale unit m : ℕ) (set free : List ℕ) (left :
       omega (arith, hits-sum ballot up, ones more, added-size m set free left committee is_node whole, below)
 
   -- the bound, with a row more
-  module _ (rows : List Row) (row : Row) (up : IsIncreasing 1 m row.0) (kept worth overlap all : ℕ) (f g : ℕ → ℕ) (p q : ℕ → ℕ → ℕ)
-      (is : IsMajorant weights scale unit (hits row.0 set) (min left (hits row.0 free)) kept worth overlap)
+  module _ (rows : List Row) (row : Row) (up : IsIncreasing 1 m row.0) (constant worth overlap all : ℕ) (f g : ℕ → ℕ) (p q : ℕ → ℕ → ℕ)
+      (is : IsMajorant weights scale unit (hits row.0 set) (min left (hits row.0 free)) constant worth overlap)
       (before : scale * thiele_value weights rows committee + unit * pair_sum p joined ≤ unit * (all + sum_by f joined))
       (worths : (n : ℕ) → has_member free n ≡ true → g n ≡ f n + cond (has_member row.0 n) (row.1 * worth) 0)
       (overlaps : (i j : ℕ) → has_member free i ≡ true → has_member free j ≡ true → q i j ≡ p i j + cond (has_member row.0 i) (cond (has_member row.0 j) (row.1 * overlap) 0) 0) where
-    pub row-bound : scale * (row.1 * sum (take (hits row.0 committee) weights) + thiele_value weights rows committee) + unit * pair_sum q joined ≤ unit * (all + row.1 * kept + sum_by g joined)
+    pub row-bound : scale * (row.1 * sum (take (hits row.0 committee) weights) + thiele_value weights rows committee) + unit * pair_sum q joined ≤ unit * (all + row.1 * constant + sum_by g joined)
     row-bound =
         let more = added m set free left committee is_node whole in
         let free-is : (n : ℕ) → has_member joined n ≡ true → has_member free n ≡ true = added-free m set free left committee is_node whole in
         let h = hits row.0 more in
         let count : h ≡ sum_by (λ n. cond (has_member row.0 n) 1 0) joined = hits-sum row.0 up in
         let given = sum (take (hits row.0 set + h) weights) in
-        let one : scale * (row.1 * given) + unit * (row.1 * overlap * (h * h)) ≤ unit * (row.1 * kept + row.1 * worth * h) =
-        voters-bound scale unit row.1 given kept worth overlap h (is h (hits-few row.0 up)) in
+        let one : scale * (row.1 * given) + unit * (row.1 * overlap * (h * h)) ≤ unit * (row.1 * constant + row.1 * worth * h) =
+        voters-bound scale unit row.1 given constant worth overlap h (is h (hits-few row.0 up)) in
         let worths' : sum_by g joined ≡ sum_by f joined + row.1 * worth * h =
         sum-more f g (has_member row.0) (row.1 * worth) joined (λ n in_. worths n (free-is n in_)) ∙ ap (λ n. sum_by f joined + row.1 * worth * n) (sym count) in
         let overlaps' : pair_sum q joined ≡ pair_sum p joined + row.1 * overlap * (h * h) =
@@ -275,19 +275,19 @@ module _ (weights : List ℕ) (scale unit m : ℕ) (set free : List ℕ) (left :
           two scale (row.1 * sum (take (hits row.0 committee) weights)) (thiele_value weights rows committee),
           ap (λ n. unit * n) overlaps',
           two unit (pair_sum p joined) (row.1 * overlap * (h * h)),
-          ap (λ n. unit * (all + row.1 * kept + n)) worths',
-          two unit (all + row.1 * kept) (sum_by f joined + row.1 * worth * h),
-          two unit all (row.1 * kept),
+          ap (λ n. unit * (all + row.1 * constant + n)) worths',
+          two unit (all + row.1 * constant) (sum_by f joined + row.1 * worth * h),
+          two unit all (row.1 * constant),
           two unit (sum_by f joined) (row.1 * worth * h),
           two unit all (sum_by f joined),
-          two unit (row.1 * kept) (row.1 * worth * h),
+          two unit (row.1 * constant) (row.1 * worth * h),
         )
 
   -- all rows
-  pub pairs-bound : (kept worth overlap : Row → ℕ) (rows : List Row) → AllByRecursion (λ row. IsIncreasing 1 m row.0) rows
-      → AllByRecursion (λ row. IsMajorant weights scale unit (hits row.0 set) (min left (hits row.0 free)) (kept row) (worth row) (overlap row)) rows
-      → scale * thiele_value weights rows committee + unit * pair_sum (all_overlap overlap rows) joined ≤ unit * (all_kept kept rows + sum_by (all_worth worth rows) joined)
-  pairs-bound kept worth overlap [] ups are = omega (arith, ap (λ n. unit * n) (nothing joined joined))
+  pub pairs-bound : (constant worth overlap : Row → ℕ) (rows : List Row) → AllByRecursion (λ row. IsIncreasing 1 m row.0) rows
+      → AllByRecursion (λ row. IsMajorant weights scale unit (hits row.0 set) (min left (hits row.0 free)) (constant row) (worth row) (overlap row)) rows
+      → scale * thiele_value weights rows committee + unit * pair_sum (all_overlap overlap rows) joined ≤ unit * (all_constants constant rows + sum_by (all_worth worth rows) joined)
+  pairs-bound constant worth overlap [] ups are = omega (arith, ap (λ n. unit * n) (nothing joined joined))
     where
       nothing : (xs ys : List ℕ) → sum_by (λ i. sum_by (all_overlap overlap [] i) ys) xs ≡ 0
       nothing [] ys = refl
@@ -296,14 +296,14 @@ module _ (weights : List ℕ) (scale unit m : ℕ) (set free : List ℕ) (left :
           none : (ys : List ℕ) → sum_by (all_overlap overlap [] x) ys ≡ 0
           none [] = refl
           none (y ∷ ys) = omega (arith, none ys, sum_by-cons (all_overlap overlap [] x) y ys)
-  pairs-bound kept worth overlap (row ∷ rows) ups are =
-      let one = row-bound rows row ups.0 (kept row) (worth row) (overlap row) (all_kept kept rows) (all_worth worth rows) (all_worth worth (row ∷ rows)) (all_overlap overlap rows) (all_overlap overlap (row ∷ rows))
-      are.0 (pairs-bound kept worth overlap rows ups.1 are.1) (λ n in_. worth-cons worth row rows n) (λ i j a b. overlap-cons overlap row rows i j) in
+  pairs-bound constant worth overlap (row ∷ rows) ups are =
+      let one = row-bound rows row ups.0 (constant row) (worth row) (overlap row) (all_constants constant rows) (all_worth worth rows) (all_worth worth (row ∷ rows)) (all_overlap overlap rows) (all_overlap overlap (row ∷ rows))
+      are.0 (pairs-bound constant worth overlap rows ups.1 are.1) (λ n in_. worth-cons worth row rows n) (λ i j a b. overlap-cons overlap row rows i j) in
       omega (
         arith,
         one,
         ap (λ n. scale * n) (sum_by-cons (λ (r : Row). r.1 * sum (take (hits r.0 committee) weights)) row rows),
-        ap (λ n. unit * (n + sum_by (all_worth worth (row ∷ rows)) joined)) (sum_by-cons (λ (r : Row). r.1 * kept r) row rows ∙ turned (row.1 * kept row) (all_kept kept rows)),
+        ap (λ n. unit * (n + sum_by (all_worth worth (row ∷ rows)) joined)) (sum_by-cons (λ (r : Row). r.1 * constant r) row rows ∙ turned (row.1 * constant row) (all_constants constant rows)),
       )
     where
       turned : (a b : ℕ) → a + b ≡ b + a

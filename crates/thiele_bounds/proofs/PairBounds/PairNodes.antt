@@ -27,26 +27,26 @@ units-low scale unit least needed all overlaps some units bound = elim (cases_lt
       omega (arith, few, low)
 ]
 
-module _ (weights : List ℕ) (scale unit m : ℕ) (rows : List Row) (set free : List ℕ) (left kept : ℕ) (worths table : List ℕ) (is_node : IsNode m set free) (size : m ≤ most_candidates) (two : 2 ≤ left) (some : 1 ≤ unit)
-    (totals : AreTotals weights scale unit m rows set free left kept worths table) (least needed raise : ℕ) (units : (value : ℕ) → scale * least ≤ unit * value → needed ≤ value)
+module _ (weights : List ℕ) (scale unit m : ℕ) (rows : List Row) (set free : List ℕ) (left constant : ℕ) (worths table : List ℕ) (is_node : IsNode m set free) (size : m ≤ most_candidates) (two : 2 ≤ left) (some : 1 ≤ unit)
+    (totals : AreTotals weights scale unit m rows set free left constant worths table) (least needed raise : ℕ) (units : (value : ℕ) → scale * least ≤ unit * value → needed ≤ value)
     (enough : (i j : ℕ) → i ≤ most_candidates → j ≤ most_candidates → 2 * (left - 1) * overlap_at table i j ≤ raise) (sums : List ℕ)
     (sums_are : (i : ℕ) → has_member free i ≡ true → IsRowSum worths table free left raise i (get_or sums i 0)) (due : ℕ)
-    (due_low : due ≤ 2 * (left - 1) * needed + left * left * raise - 2 * (left - 1) * kept) where
+    (due_low : due ≤ 2 * (left - 1) * needed + left * left * raise - 2 * (left - 1) * constant) where
   module _ (committee : List ℕ) (whole : IsCompletion m set free left committee) (reaches : least ≤ thiele_value weights rows committee) where
     -- what is needed, times the factor of the row sums
-    reach-low : 2 * (left - 1) * needed + 2 * (left - 1) * pair_sum (overlap_at table) (common_members free committee) ≤ 2 * (left - 1) * kept + 2 * (left - 1) * sum_by (slice_index worths) (common_members free committee)
+    reach-low : 2 * (left - 1) * needed + 2 * (left - 1) * pair_sum (overlap_at table) (common_members free committee) ≤ 2 * (left - 1) * constant + 2 * (left - 1) * sum_by (slice_index worths) (common_members free committee)
     reach-low =
         let more = common_members free committee in
         let value : scale * least ≤ scale * thiele_value weights rows committee = mul-le-mul_left scale reaches in
-        let low : needed + pair_sum (overlap_at table) more ≤ kept + sum_by (slice_index worths) more =
-        units-low scale unit least needed (kept + sum_by (slice_index worths) more) (pair_sum (overlap_at table) more) some units (omega (arith, value, totals committee whole)) in
+        let low : needed + pair_sum (overlap_at table) more ≤ constant + sum_by (slice_index worths) more =
+        units-low scale unit least needed (constant + sum_by (slice_index worths) more) (pair_sum (overlap_at table) more) some units (omega (arith, value, totals committee whole)) in
         let spread : (a b c : ℕ) → a * (b + c) ≡ a * b + a * c = λ a b c. omega arith in
-        let product : 2 * (left - 1) * (needed + pair_sum (overlap_at table) more) ≤ 2 * (left - 1) * (kept + sum_by (slice_index worths) more) = mul-le-mul_left (2 * (left - 1)) low in
+        let product : 2 * (left - 1) * (needed + pair_sum (overlap_at table) more) ≤ 2 * (left - 1) * (constant + sum_by (slice_index worths) more) = mul-le-mul_left (2 * (left - 1)) low in
         omega (
           arith,
           product,
           spread (2 * (left - 1)) needed (pair_sum (overlap_at table) more),
-          spread (2 * (left - 1)) kept (sum_by (slice_index worths) more),
+          spread (2 * (left - 1)) constant (sum_by (slice_index worths) more),
         )
 
     beside-free : (i j : ℕ) → has_member free i ≡ true → has_member free j ≡ true → 2 * (left - 1) * overlap_at table i j ≤ slice_index worths j + raise

@@ -32,10 +32,10 @@ hits-both m ballot set free up most is_node =
     )
 
 -- numbers that are above the sums make a majorant
-majorant-is : (weights sums : List ℕ) (scale unit before most kept worth overlap : ℕ) → AreSums weights scale unit sums → before + most ≤ most_candidates
-    → ((h : ℕ) → h ≤ most → get_or sums (before + h) 0 + overlap * (h * h) ≤ kept + worth * h) → IsMajorant weights scale unit before most kept worth overlap
-majorant-is weights sums scale unit before most kept worth overlap are fits bounds h few =
-    let units : unit * (get_or sums (before + h) 0 + overlap * (h * h)) ≤ unit * (kept + worth * h) = mul-le-mul_left unit (bounds h few) in
+majorant-is : (weights sums : List ℕ) (scale unit before most constant worth overlap : ℕ) → AreSums weights scale unit sums → before + most ≤ most_candidates
+    → ((h : ℕ) → h ≤ most → get_or sums (before + h) 0 + overlap * (h * h) ≤ constant + worth * h) → IsMajorant weights scale unit before most constant worth overlap
+majorant-is weights sums scale unit before most constant worth overlap are fits bounds h few =
+    let units : unit * (get_or sums (before + h) 0 + overlap * (h * h)) ≤ unit * (constant + worth * h) = mul-le-mul_left unit (bounds h few) in
     let split : (a b c : ℕ) → a * (b + c) ≡ a * b + a * c = λ a b c. omega arith in
     omega (arith, units, split unit (get_or sums (before + h) 0) (overlap * (h * h)), are.up (before + h) (omega (arith, fits, few)))
 
@@ -59,9 +59,9 @@ portion-self false q n = omega arith
 -- ---- the rows so far
 
 -- nothing yet
-pub totals-none : (weights : List ℕ) (scale unit m : ℕ) (rows : List Row) (set free : List ℕ) (left kept : ℕ) (worths table : List ℕ) → AreNothing kept worths table
-    → AreTotals weights scale unit m (take 0 rows) set free left kept worths table
-totals-none weights scale unit m rows set free left kept worths table nothing committee whole =
+pub totals-none : (weights : List ℕ) (scale unit m : ℕ) (rows : List Row) (set free : List ℕ) (left constant : ℕ) (worths table : List ℕ) → AreNothing constant worths table
+    → AreTotals weights scale unit m (take 0 rows) set free left constant worths table
+totals-none weights scale unit m rows set free left constant worths table nothing committee whole =
     let none : scale * thiele_value weights (take 0 rows) committee ≡ 0 = omega arith in
     omega (arith, none, ap (λ n. unit * n) (all (common_members free committee) (common_members free committee)))
   where
@@ -87,21 +87,21 @@ module _ (e : Election) (valid : IsElection e) (i : ℕ) (row : Row) (found : sl
   voters-room = omega (arith, voters-more, sum_by-take-le (λ (r : Row). r.1) e.rows (i + 1), valid.voters)
 
   -- a row more
-  pub totals-more : (weights sums : List ℕ) (scale unit : ℕ) (set free : List ℕ) (left before most kept worth overlap all : ℕ) (worths more_worths table more_table : List ℕ) → IsNode e.m set free
+  pub totals-more : (weights sums : List ℕ) (scale unit : ℕ) (set free : List ℕ) (left before most constant worth overlap all : ℕ) (worths more_worths table more_table : List ℕ) → IsNode e.m set free
       → AreSums weights scale unit sums → before ≡ hits row.0 set → most ≡ min left (hits row.0 free)
-      → ((h : ℕ) → h ≤ most → get_or sums (before + h) 0 + overlap * (h * h) ≤ kept + worth * h)
+      → ((h : ℕ) → h ≤ most → get_or sums (before + h) 0 + overlap * (h * h) ≤ constant + worth * h)
       → AreTotals weights scale unit e.m (take i e.rows) set free left all worths table
       → ((n : ℕ) → has_member free n ≡ true → get_or more_worths n 0 ≡ get_or worths n 0 + cond (has_member row.0 n) (row.1 * worth) 0)
       → ((a b : ℕ) → has_member free a ≡ true → has_member free b ≡ true → overlap_at more_table a b ≡ overlap_at table a b + portion (has_member row.0 a) (has_member row.0 b) (row.1 * overlap))
-      → AreTotals weights scale unit e.m (take (i + 1) e.rows) set free left (all + row.1 * kept) more_worths more_table
-  totals-more weights sums scale unit set free left before most kept worth overlap all worths more_worths table more_table is_node are before-is most-is bounds so_far worths-are table-are committee whole =
+      → AreTotals weights scale unit e.m (take (i + 1) e.rows) set free left (all + row.1 * constant) more_worths more_table
+  totals-more weights sums scale unit set free left before most constant worth overlap all worths more_worths table more_table is_node are before-is most-is bounds so_far worths-are table-are committee whole =
       let here : get_or e.rows i row ≡ row = get_or_from_slice_get e.rows i row row found in
       let within : i < length e.rows = slice_get_within e.rows i row found in
       let value : thiele_value weights (take (i + 1) e.rows) committee ≡ thiele_value weights (take i e.rows) committee + row.1 * sum (take (hits row.0 committee) weights) =
       rw here at (sum_by_more (λ (r : Row). r.1 * sum (take (hits r.0 committee) weights)) e.rows i row within) in
       let fits : before + most ≤ most_candidates = omega (arith, before-is, most-is, hits-both e.m row.0 set free row-up valid.most is_node) in
-      let majorant : IsMajorant weights scale unit (hits row.0 set) (min left (hits row.0 free)) kept worth overlap =
-      rw most-is at (rw before-is at (majorant-is weights sums scale unit before most kept worth overlap are fits bounds)) in
-      let one = row-bound weights scale unit e.m set free left committee is_node whole (take i e.rows) row row-up kept worth overlap all (slice_index worths) (slice_index more_worths) (overlap_at table) (overlap_at more_table)
+      let majorant : IsMajorant weights scale unit (hits row.0 set) (min left (hits row.0 free)) constant worth overlap =
+      rw most-is at (rw before-is at (majorant-is weights sums scale unit before most constant worth overlap are fits bounds)) in
+      let one = row-bound weights scale unit e.m set free left committee is_node whole (take i e.rows) row row-up constant worth overlap all (slice_index worths) (slice_index more_worths) (overlap_at table) (overlap_at more_table)
       majorant (so_far committee whole) worths-are table-are in
       omega (arith, one, ap (λ n. scale * n) value)

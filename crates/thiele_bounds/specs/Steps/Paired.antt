@@ -25,14 +25,14 @@ pub record AreSmallSums (sums : List ℕ) : Type 0 where
 
 -- no number of a majorant is too large beside what all hits give
 pub record IsSmallMajorant (all_give : ℕ) (majorant : Majorant) : Type 0 where
-  pub kept_small : majorant.kept ≤ all_give * 2 ^ 13
+  pub constant_small : majorant.constant ≤ all_give * 2 ^ 13
   pub worth_small : majorant.worth ≤ all_give * 2 ^ 8
   pub overlap_small : majorant.overlap ≤ all_give
 
 -- for up to `most` hits after the first `before`, the majorant is at least the sum of what they and those before give
 pub record IsMajorantOf (sums : List ℕ) (before most : ℕ) (majorant : Majorant) : Type 0 where
   pub bounds : (h : ℕ) → h ≤ most
-      → slice_index sums (before + h) + majorant.overlap * (h * h) ≤ majorant.kept + majorant.worth * h
+      → slice_index sums (before + h) + majorant.overlap * (h * h) ≤ majorant.constant + majorant.worth * h
   pub small : IsSmallMajorant (most_sum sums) majorant
 
 -- how many pairs there are of the numbers below n, also of a number with itself
@@ -48,17 +48,17 @@ pair_place i j = triangle (max i j) + min i j
 abbrev pub overlap_at : List ℕ → ℕ → ℕ → ℕ
 overlap_at table i j = slice_index table (pair_place i j)
 
--- no committee that completes the set is worth more than what is kept and the worths of the members that join, less
+-- no committee that completes the set is worth more than the constant and the worths of the members that join, less
 -- their overlaps
 abbrev pub AreTotals : List ℕ → ℕ → ℕ → ℕ → List Row → List ℕ → List ℕ → ℕ → ℕ → List ℕ → List ℕ → Type 0
-AreTotals weights scale unit m rows set free left kept worths table =
+AreTotals weights scale unit m rows set free left constant worths table =
     (committee : List ℕ) → IsCompletion m set free left committee
     → scale * thiele_value weights rows committee + unit * pair_sum (overlap_at table) (common_members free committee)
-    ≤ unit * (kept + sum_by (slice_index worths) (common_members free committee))
+    ≤ unit * (constant + sum_by (slice_index worths) (common_members free committee))
 
 -- nothing was added up
-pub record AreNothing (kept : ℕ) (worths table : List ℕ) : Type 0 where
-  pub kept_none : kept ≡ 0
+pub record AreNothing (constant : ℕ) (worths table : List ℕ) : Type 0 where
+  pub constant_none : constant ≡ 0
   pub worths_none : (n : ℕ) → slice_index worths n ≡ 0
   pub overlaps_none : (i j : ℕ) → overlap_at table i j ≡ 0
 

@@ -11,7 +11,7 @@ pub record ArePrices {A : Type 0} (tally : Thiele) (priced : Priced A) : Type 0 
   pub k_is : priced.k ≡ tally.k
   pub sums : AreSums (increments tally.rule tally.k) priced.given.scale priced.given.unit priced.given.sums
   pub totals : AreTotals (increments tally.rule tally.k) priced.given.scale priced.given.unit tally.election.m
-      tally.election.rows [] (range_with_len 1 tally.election.m) tally.k priced.whole.kept priced.whole.worths []
+      tally.election.rows [] (range_with_len 1 tally.election.m) tally.k priced.whole.constant priced.whole.worths []
 
 -- the prices are those of the election, if they are kept
 abbrev pub IsPriced : {A : Type 0} → Thiele → Option (Priced A) → Type 0

@@ -11,9 +11,9 @@ use Rattle.thiele_bounds.specs.declared.pairs.Totals.{Totals}
 
 -- under each rule with these sums, the totals bound the committees that complete the set of a node
 abbrev pub BoundNode : HitSums → Election → Node → ℕ → List ℕ → List ℕ → Type 0
-BoundNode given election node kept worths table = (weights : List ℕ)
+BoundNode given election node constant worths table = (weights : List ℕ)
     → AreSums weights given.scale given.unit given.sums
-    → AreTotals weights given.scale given.unit election.m election.rows node.set node.free node.left kept worths table
+    → AreTotals weights given.scale given.unit election.m election.rows node.set node.free node.left constant worths table
 
 -- under each rule with these sums, the answer is right at a node
 abbrev pub NarrowsUnder : HitSums → Election → Node → ℕ → Option (List ℕ) → Type 0
@@ -23,7 +23,7 @@ NarrowsUnder given election node least answer = (weights : List ℕ)
 
 -- no total is too large, and no candidate overlaps more with another than with itself
 pub record AreSmall (totals : Totals) : Type 0 where
-  pub kept_small : totals.kept ≤ 2 ^ 71
+  pub constant_small : totals.constant ≤ 2 ^ 71
   pub worths_small : (n : ℕ) → slice_index totals.worths n ≤ 2 ^ 66
   pub overlaps_small : (i j : ℕ) → j ≤ most_candidates → overlap_at totals.overlaps i j ≤ 2 ^ 58
   pub overlaps_self : (i j : ℕ) → i ≤ most_candidates → j ≤ most_candidates

@@ -15,6 +15,10 @@ block_voters = 64
 abbrev pub most_blocks : ℕ
 most_blocks = 1024
 
+-- each gain is below this before a block is added: all blocks together add far less
+abbrev pub column_limit : ℕ
+column_limit = 2 ^ 106
+
 -- the ballots of the voters, each as often as it was cast
 abbrev pub voters_of : List Row → List (List ℕ)
 voters_of [] = []

@@ -10,7 +10,7 @@ use Rattle.tie_search.specs.Asked.{beginnings, begins_some, most_questions}
 use Rattle.tie_search.specs.Tied.{IsBest}
 use Rattle.tie_search.specs.Steps.Searched.{IsSearched}
 use Rattle.tie_search.specs.declared.asking.Asking.{Asking}
-use Rattle.tie_search.specs.declared.best.Best.{Best}
+use Rattle.tie_search.specs.declared.oracle.Oracle.{Oracle}
 use Rattle.tie_search.specs.declared.branch.Branch.{Branch}
 
 -- whether the committee is the set of the branch and some of its free candidates
@@ -80,9 +80,9 @@ abbrev pub IsAnswer : (List ℕ → ℕ) → ℕ → ℕ → Branch → Option (
 IsAnswer value m k branch answer = MatchOption answer (IsBarren value m k branch) (IsWinnerOf value m k branch)
 
 -- what is known of the committees of k with the highest value is true
-abbrev pub KnowsBest : {S : Type 0} → (S → List ℕ → ℕ) → (S → ℕ → List ℕ) → (S → ℕ) → Best S → Type 0
-KnowsBest value class candidates best =
-    IsSearched (value best.search) (class best.search) (candidates best.search) best.m best.k best.value best.tied
+abbrev pub IsOracle : {S : Type 0} → (S → List ℕ → ℕ) → (S → ℕ → List ℕ) → (S → ℕ) → Oracle S → Type 0
+IsOracle value class candidates oracle =
+    IsSearched (value oracle.search) (class oracle.search) (candidates oracle.search) oracle.m oracle.k oracle.value oracle.tied
 
 -- what is true of winners that are asked for
 pub record IsAsking (value : List ℕ → ℕ) (m k : ℕ) (asking : Asking) : Type 0 where
@@ -117,41 +117,41 @@ pub record AreAsked (m k : ℕ) (before : Asking) (found : List (List ℕ)) (aft
 
 -- ---- the same in what is searched, as contracts say it: `value` and `candidates` are those of the search
 
-abbrev pub IsBranchIn : {S : Type 0} → (S → ℕ) → Best S → Branch → Type 0
-IsBranchIn candidates best = IsBranch (candidates best.search) best.k
+abbrev pub IsBranchIn : {S : Type 0} → (S → ℕ) → Oracle S → Branch → Type 0
+IsBranchIn candidates oracle = IsBranch (candidates oracle.search) oracle.k
 
-abbrev pub IsBestIn : {S : Type 0} → (S → List ℕ → ℕ) → (S → ℕ) → Best S → List ℕ → Type 0
-IsBestIn value candidates best = IsBest (value best.search) (candidates best.search) best.k
+abbrev pub IsBestIn : {S : Type 0} → (S → List ℕ → ℕ) → (S → ℕ) → Oracle S → List ℕ → Type 0
+IsBestIn value candidates oracle = IsBest (value oracle.search) (candidates oracle.search) oracle.k
 
 -- a committee with the highest value, or no such committee completes the branch
-abbrev pub IsGuessIn : {S : Type 0} → (S → List ℕ → ℕ) → (S → ℕ) → Best S → Branch → Option (List ℕ) → Type 0
-IsGuessIn value candidates best branch guess =
-    MatchOption guess (IsBarren (value best.search) (candidates best.search) best.k branch)
-    (IsBestIn value candidates best)
+abbrev pub IsGuessIn : {S : Type 0} → (S → List ℕ → ℕ) → (S → ℕ) → Oracle S → Branch → Option (List ℕ) → Type 0
+IsGuessIn value candidates oracle branch guess =
+    MatchOption guess (IsBarren (value oracle.search) (candidates oracle.search) oracle.k branch)
+    (IsBestIn value candidates oracle)
 
-abbrev pub IsAnswerIn : {S : Type 0} → (S → List ℕ → ℕ) → (S → ℕ) → Best S → Branch → Option (List ℕ) → Type 0
-IsAnswerIn value candidates best = IsAnswer (value best.search) (candidates best.search) best.k
+abbrev pub IsAnswerIn : {S : Type 0} → (S → List ℕ → ℕ) → (S → ℕ) → Oracle S → Branch → Option (List ℕ) → Type 0
+IsAnswerIn value candidates oracle = IsAnswer (value oracle.search) (candidates oracle.search) oracle.k
 
-abbrev pub IsAskingIn : {S : Type 0} → (S → List ℕ → ℕ) → (S → ℕ) → Best S → Asking → Type 0
-IsAskingIn value candidates best = IsAsking (value best.search) (candidates best.search) best.k
+abbrev pub IsAskingIn : {S : Type 0} → (S → List ℕ → ℕ) → (S → ℕ) → Oracle S → Asking → Type 0
+IsAskingIn value candidates oracle = IsAsking (value oracle.search) (candidates oracle.search) oracle.k
 
-abbrev pub IsOnTheWayIn : {S : Type 0} → (S → List ℕ → ℕ) → (S → ℕ) → Best S → Asking → Branch → Type 0
-IsOnTheWayIn value candidates best = IsOnTheWay (value best.search) (candidates best.search) best.k
+abbrev pub IsOnTheWayIn : {S : Type 0} → (S → List ℕ → ℕ) → (S → ℕ) → Oracle S → Asking → Branch → Type 0
+IsOnTheWayIn value candidates oracle = IsOnTheWay (value oracle.search) (candidates oracle.search) oracle.k
 
-abbrev pub AreAskedIn : {S : Type 0} → (S → ℕ) → Best S → Asking → List (List ℕ) → Asking → Type 0
-AreAskedIn candidates best = AreAsked (candidates best.search) best.k
+abbrev pub AreAskedIn : {S : Type 0} → (S → ℕ) → Oracle S → Asking → List (List ℕ) → Asking → Type 0
+AreAskedIn candidates oracle = AreAsked (candidates oracle.search) oracle.k
 
 -- a step from all branches
-abbrev pub IsStepIn : {S : Type 0} → (S → List ℕ → ℕ) → (S → ℕ) → Best S → Asking → List (List ℕ) → Asking → Type 0
-IsStepIn value candidates best before found after =
-    IsStep (value best.search) (candidates best.search) best.k before.branches.items before.entered found
+abbrev pub IsStepIn : {S : Type 0} → (S → List ℕ → ℕ) → (S → ℕ) → Oracle S → Asking → List (List ℕ) → Asking → Type 0
+IsStepIn value candidates oracle before found after =
+    IsStep (value oracle.search) (candidates oracle.search) oracle.k before.branches.items before.entered found
     after.branches.items after.entered
 
 -- a step from all branches and one more
-abbrev pub IsStepFrom : {S : Type 0} → (S → List ℕ → ℕ) → (S → ℕ) → Best S → Asking → Branch → List (List ℕ)
+abbrev pub IsStepFrom : {S : Type 0} → (S → List ℕ → ℕ) → (S → ℕ) → Oracle S → Asking → Branch → List (List ℕ)
     → Asking → Type 0
-IsStepFrom value candidates best before branch found after =
-    IsStep (value best.search) (candidates best.search) best.k (before.branches.items ++ branch ∷ []) before.entered
+IsStepFrom value candidates oracle before branch found after =
+    IsStep (value oracle.search) (candidates oracle.search) oracle.k (before.branches.items ++ branch ∷ []) before.entered
     found after.branches.items after.entered
 
 -- ---- the start
@@ -180,8 +180,8 @@ pub record IsBegun (value : List ℕ → ℕ) (m k : ℕ) (after : Option (List 
   pub questions : asking.asked ≡ 0
 
 -- what is true of winners that are listed
-pub record IsListing {S : Type 0} (value : S → List ℕ → ℕ) (class : S → ℕ → List ℕ) (candidates : S → ℕ) (best : Best S)
+pub record IsListing {S : Type 0} (value : S → List ℕ → ℕ) (class : S → ℕ → List ℕ) (candidates : S → ℕ) (oracle : Oracle S)
     (after : Option (List ℕ)) (asking : Asking) : Type 0 where
-  pub knows : KnowsBest value class candidates best
-  pub asking_is : IsAsking (value best.search) (candidates best.search) best.k asking
-  pub counted : IsCounted (value best.search) (candidates best.search) best.k after asking
+  pub knows : IsOracle value class candidates oracle
+  pub asking_is : IsAsking (value oracle.search) (candidates oracle.search) oracle.k asking
+  pub counted : IsCounted (value oracle.search) (candidates oracle.search) oracle.k after asking

@@ -1,7 +1,7 @@
 -- What tallies keep, and how they sum.
 use Rattle.std.specs.Prelude.{◌≡◌, ℕ, ◌+◌, ◌*◌, ◌/◌, ◌^◌, ◌≤◌, List, [], ◌∷◌, length, map, sum, sum_by, take, slice_index}
 use Rattle.std.specs.List.{range_with_len}
-use Rattle.ballot_base.specs.Limits.{most_candidates, most_members}
+use Rattle.ballot_base.specs.Limits.{most_candidates, most_members, most_thiele_value}
 use Rattle.ballot_base.specs.Ballots.{Row, Election, IsElection}
 use Rattle.ballot_base.specs.CommonMultiple.{common_multiple}
 use Rattle.ballot_base.specs.Increments.{increments}
@@ -40,4 +40,4 @@ pub record IsApproval (e : Election) (k : ℕ) (approvals : List ℕ) : Type 0 w
   pub some : 1 ≤ k
   pub size : k ≤ most_members
   pub approvals_are : (c : ℕ) → 1 ≤ c → c ≤ e.m → slice_index approvals c ≡ gain (increments Av k) e.rows [] c
-  pub small : (c : ℕ) → slice_index approvals c ≤ 2 ^ 116
+  pub small : (c : ℕ) → slice_index approvals c ≤ most_thiele_value

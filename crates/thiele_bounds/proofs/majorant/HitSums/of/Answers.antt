@@ -3,7 +3,7 @@ use Rattle.std.specs.Int.{div_ceil}
 use Rattle.std.proofs.Math.Nat.{div-le_self, mul-le-mul, mul-le-mul_right}
 use Rattle.std.proofs.lemmas.List.{get_or_past, get_or-set_same}
 use Rattle.ballot_base.specs.Increments.{increments}
-use Rattle.ballot_base.specs.Limits.{most_members}
+use Rattle.ballot_base.specs.Limits.{most_members, most_increments}
 use Rattle.ballot_base.specs.declared.increments.ThieleRule.{ThieleRule}
 use Rattle.ballot_base.proofs.WeightLemmas.{increments-length}
 use Rattle.tie_walk.proofs.TableLemmas.{increments_sum-most, sum-take-le, sum-take_more}
@@ -19,10 +19,10 @@ loop-hits-init c = record {
 }
 
 -- a weight, times the scale, fits
-scaled-small : (weights : List ℕ) (scale hits : ℕ) → sum weights ≤ 2 ^ 84 → scale ≤ 2 ^ 40 → get_or weights hits 0 * scale ≤ 2 ^ 124
+scaled-small : (weights : List ℕ) (scale hits : ℕ) → sum weights ≤ most_increments → scale ≤ 2 ^ 40 → get_or weights hits 0 * scale ≤ 2 ^ 124
 scaled-small weights scale hits most fine =
-    let low : get_or weights hits 0 ≤ 2 ^ 84 = omega (arith, most, sum-take_more weights hits, sum-take-le weights (hits + 1)) in
-    let all : get_or weights hits 0 * scale ≤ 2 ^ 84 * 2 ^ 40 = mul-le-mul low fine in
+    let low : get_or weights hits 0 ≤ most_increments = omega (arith, most, sum-take_more weights hits, sum-take-le weights (hits + 1)) in
+    let all : get_or weights hits 0 * scale ≤ most_increments * 2 ^ 40 = mul-le-mul low fine in
     omega (arith, all)
 
 -- what a hit adds is no more
@@ -31,7 +31,7 @@ ceil-less a unit some =
     let low : 1 * a ≤ unit * a = mul-le-mul_right a some in
     ceil-low a unit a some (omega (arith, low))
 
-weights-small : (rule : ThieleRule) (k : ℕ) (weights : List ℕ) → k ≤ most_members → weights ≡ increments rule k → sum weights ≤ 2 ^ 84
+weights-small : (rule : ThieleRule) (k : ℕ) (weights : List ℕ) → k ≤ most_members → weights ≡ increments rule k → sum weights ≤ most_increments
 weights-small rule k weights size same = omega (arith, ap sum same, increments_sum-most rule k size)
 
 pub overflow_mul-weights : goal.overflow_mul-weights

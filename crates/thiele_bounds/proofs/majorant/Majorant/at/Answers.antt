@@ -52,10 +52,10 @@ loop-hits-preserved c =
     record {
       step_small = inv.step_small;
       overlap_small = inv.overlap_small;
-      small = omega (arith, c.max-kept.ensures, c.saturating_sub-in-loop-hits.ensures, inv.small, c.requires.small.none_above (c.from-first.result + hits) (omega (arith, c.loop-hits-test.true, c.from-hits-end.ensures, c.from-first.ensures, c.requires.fits)), square (most_sum c.args.sums.now) c.min-overlap.result hits inv.overlap_small few);
+      small = omega (arith, c.max-constant.ensures, c.saturating_sub-in-loop-hits.ensures, inv.small, c.requires.small.none_above (c.from-first.result + hits) (omega (arith, c.loop-hits-test.true, c.from-hits-end.ensures, c.from-first.ensures, c.requires.fits)), square (most_sum c.args.sums.now) c.min-overlap.result hits inv.overlap_small few);
       above = λ h low. elim (cases_eq h hits) [
-        | inl same ↦ rw same (omega (arith, c.max-kept.ensures, c.saturating_sub-in-loop-hits.ensures))
-        | inr other ↦ omega (arith, inv.above h (omega (arith, low, other)), c.max-kept.ensures)
+        | inl same ↦ rw same (omega (arith, c.max-constant.ensures, c.saturating_sub-in-loop-hits.ensures))
+        | inr other ↦ omega (arith, inv.above h (omega (arith, low, other)), c.max-constant.ensures)
       ];
     }
 
@@ -67,7 +67,7 @@ returns c = record {
     ap (λ n. get_or c.args.sums.now (n + h) 0) c.from-first.ensures,
   );
   small = record {
-    kept_small = c.loop-hits.invariant.small;
+    constant_small = c.loop-hits.invariant.small;
     worth_small = worth-small (most_sum c.args.sums.now) c.if-touch-most.step c.min-overlap.result c.from-3.result c.loop-hits.invariant.step_small c.loop-hits.invariant.overlap_small
         (omega (arith, c.from-3.ensures, c.requires.touch, c.requires.fits));
     overlap_small = c.loop-hits.invariant.overlap_small;

@@ -7,6 +7,6 @@ abbrev pub invariant-loop-hits : goal.invariant-loop-hits
 invariant-loop-hits l = record {
   step_small : l.step ≤ most_sum l.sums;
   overlap_small : l.overlap ≤ most_sum l.sums;
-  small : l.kept ≤ most_sum l.sums * 2 ^ 13;
-  above : (h : ℕ) → h < l.hits → get_or l.sums (l.first + h) 0 + l.overlap * (h * h) ≤ l.kept + l.worth * h;
+  small : l.constant ≤ most_sum l.sums * 2 ^ 13;
+  above : (h : ℕ) → h < l.hits → get_or l.sums (l.first + h) 0 + l.overlap * (h * h) ≤ l.constant + l.worth * h;
 }

@@ -24,8 +24,8 @@ loop-ballot-init g c =
     record {
       sums = c.new-majorants.ensures.sums;
       left = c.new-majorants.ensures.left;
-      totals = λ weights are. totals-none weights given.scale given.unit c.args.self.now.profile.now.m c.args.self.now.profile.now.rows c.args.node.now.set c.args.node.now.free c.args.node.now.left totals.kept totals.worths totals.overlaps nothing;
-      small_kept = omega (arith, nothing.kept_none);
+      totals = λ weights are. totals-none weights given.scale given.unit c.args.self.now.profile.now.m c.args.self.now.profile.now.rows c.args.node.now.set c.args.node.now.free c.args.node.now.left totals.constant totals.worths totals.overlaps nothing;
+      small_constant = omega (arith, nothing.constant_none);
       small_worths = λ n. omega (arith, nothing.worths_none n);
       self_overlaps = λ i j one other. omega (arith, nothing.overlaps_none i j);
       small_overlaps = λ i j low. omega (arith, nothing.overlaps_none i j);
@@ -68,13 +68,13 @@ add-requires g c =
     record {
       voters = omega (arith, voters-room e valid i row at);
       majorant = record {
-        kept_small = omega (arith, small.kept_small, top);
+        constant_small = omega (arith, small.constant_small, top);
         worth_small = omega (arith, small.worth_small, top);
         overlap_small = omega (arith, small.overlap_small, top);
       };
       overlap = omega (arith, overlap, fits, c.args.self.now.fits);
       small = record {
-        kept_small = omega (arith, inv.small_kept, fits, c.args.self.now.fits);
+        constant_small = omega (arith, inv.small_constant, fits, c.args.self.now.fits);
         worths_small = λ n. omega (arith, inv.small_worths n, fits, c.args.self.now.fits);
         overlaps_small = λ i j low. omega (arith, inv.small_overlaps i j low, fits, c.args.self.now.fits);
         overlaps_self = inv.self_overlaps;
@@ -109,19 +109,19 @@ loop-ballot-preserved g c =
     λ a b here there. c.add.ensures.overlaps a b (omega (arith, member-high 1 e.m free b c.requires.is_node.free_within there, valid.most))
     ∙ ap (λ x. overlap_at before_totals.overlaps a b + x) (cells-same row.0 free approved a b (row.1 * majorant.overlap) c.common-approved.ensures here there) in
     let all_give = most_sum given.sums in
-    let small_kept : row.1 * majorant.kept ≤ row.1 * (all_give * 2 ^ 13) = mul-le-mul_left row.1 is.small.kept_small in
+    let small_constant : row.1 * majorant.constant ≤ row.1 * (all_give * 2 ^ 13) = mul-le-mul_left row.1 is.small.constant_small in
     let small_worth : row.1 * majorant.worth ≤ row.1 * (all_give * 2 ^ 8) = mul-le-mul_left row.1 is.small.worth_small in
     let small_overlap : row.1 * majorant.overlap ≤ row.1 * all_give = mul-le-mul_left row.1 is.small.overlap_small in
     let voters = ap (λ n. n * all_give) (voters-more e valid i row at) in
     record {
       sums = ap (λ (m : Majorized). m.sums) c.of_ballot-majorant.ensures.same ∙ inv.sums;
       left = ap (λ (m : Majorized). m.left) c.of_ballot-majorant.ensures.same ∙ inv.left;
-      totals = λ weights are. subst (λ n. AreTotals weights given.scale given.unit e.m (take n e.rows) set free c.args.node.now.left totals.kept totals.worths totals.overlaps) next
-          (subst (λ n. AreTotals weights given.scale given.unit e.m (take (i + 1) e.rows) set free c.args.node.now.left n totals.worths totals.overlaps) (sym c.add.ensures.kept)
-          (totals-more e valid i row at weights given.sums given.scale given.unit set free c.args.node.now.left c.len-before.result (min c.args.node.now.left c.len-in-loop-ballot.result) majorant.kept majorant.worth
-          majorant.overlap before_totals.kept before_totals.worths totals.worths before_totals.overlaps totals.overlaps c.requires.is_node are before (ap (min c.args.node.now.left) open_) is.bounds
+      totals = λ weights are. subst (λ n. AreTotals weights given.scale given.unit e.m (take n e.rows) set free c.args.node.now.left totals.constant totals.worths totals.overlaps) next
+          (subst (λ n. AreTotals weights given.scale given.unit e.m (take (i + 1) e.rows) set free c.args.node.now.left n totals.worths totals.overlaps) (sym c.add.ensures.constant)
+          (totals-more e valid i row at weights given.sums given.scale given.unit set free c.args.node.now.left c.len-before.result (min c.args.node.now.left c.len-in-loop-ballot.result) majorant.constant majorant.worth
+          majorant.overlap before_totals.constant before_totals.worths totals.worths before_totals.overlaps totals.overlaps c.requires.is_node are before (ap (min c.args.node.now.left) open_) is.bounds
           (inv.totals weights are) worths overlaps));
-      small_kept = subst (λ n. totals.kept ≤ voter_count (take n e.rows) * (all_give * 2 ^ 13)) next (omega (arith, c.add.ensures.kept, small_kept, voters, inv.small_kept));
+      small_constant = subst (λ n. totals.constant ≤ voter_count (take n e.rows) * (all_give * 2 ^ 13)) next (omega (arith, c.add.ensures.constant, small_constant, voters, inv.small_constant));
       small_worths = λ n. subst (λ x. get_or totals.worths n 0 ≤ voter_count (take x e.rows) * (all_give * 2 ^ 8)) next
           (omega (arith, small_worth, voters, inv.small_worths n, c.add.ensures.worths n, part-most (has_member approved n) (row.1 * majorant.worth)));
       self_overlaps = λ a b one other.
@@ -135,7 +135,7 @@ returns-clause-totals g c weights are =
     let given = c.args.self.now.given.now in
     let e = c.args.self.now.profile.now in
     let all = all_passed e.rows (c.into_iter-ballot-iterator.ensures.into_iter_gives ∙ c.ballots-ballot-items.ensures.rows) c.loop-ballot.yielded c.loop-ballot.yielded_by c.in-None.ensures.steps.0 in
-    subst (λ rows. AreTotals weights given.scale given.unit e.m rows c.args.node.now.set c.args.node.now.free c.args.node.now.left c.loop-ballot.totals.kept c.loop-ballot.totals.worths c.loop-ballot.totals.overlaps) all
+    subst (λ rows. AreTotals weights given.scale given.unit e.m rows c.args.node.now.set c.args.node.now.free c.args.node.now.left c.loop-ballot.totals.constant c.loop-ballot.totals.worths c.loop-ballot.totals.overlaps) all
     (c.loop-ballot.invariant.totals weights are)
 
 pub returns-clause-small : goal.returns-clause-small
@@ -146,7 +146,7 @@ returns-clause-small g c =
     let fits : voter_count (take (length c.loop-ballot.yielded) e.rows) * all_give ≤ voter_count e.rows * all_give = mul-le-mul_right all_give few in
     let inv = c.loop-ballot.invariant in
     record {
-      kept_small = omega (arith, inv.small_kept, fits, c.args.self.now.fits);
+      constant_small = omega (arith, inv.small_constant, fits, c.args.self.now.fits);
       worths_small = λ n. omega (arith, inv.small_worths n, fits, c.args.self.now.fits);
       overlaps_small = λ i j low. omega (arith, inv.small_overlaps i j low, fits, c.args.self.now.fits);
       overlaps_self = inv.self_overlaps;

@@ -10,8 +10,8 @@ invariant-loop-ballot g l = record {
   sums : l.majorants.sums ≡ l.self.given.now.sums;
   left : l.majorants.left ≡ l.node.left;
   totals : (weights : List ℕ) → AreSums weights l.self.given.now.scale l.self.given.now.unit l.self.given.now.sums
-      → AreTotals weights l.self.given.now.scale l.self.given.now.unit l.self.profile.now.m (take (length l.yielded) l.self.profile.now.rows) l.node.set l.node.free l.node.left l.totals.kept l.totals.worths l.totals.overlaps;
-  small_kept : l.totals.kept ≤ voter_count (take (length l.yielded) l.self.profile.now.rows) * (most_sum l.self.given.now.sums * 2 ^ 13);
+      → AreTotals weights l.self.given.now.scale l.self.given.now.unit l.self.profile.now.m (take (length l.yielded) l.self.profile.now.rows) l.node.set l.node.free l.node.left l.totals.constant l.totals.worths l.totals.overlaps;
+  small_constant : l.totals.constant ≤ voter_count (take (length l.yielded) l.self.profile.now.rows) * (most_sum l.self.given.now.sums * 2 ^ 13);
   small_worths : (n : ℕ) → get_or l.totals.worths n 0 ≤ voter_count (take (length l.yielded) l.self.profile.now.rows) * (most_sum l.self.given.now.sums * 2 ^ 8);
   self_overlaps : (i j : ℕ) → i ≤ most_candidates → j ≤ most_candidates → overlap_at l.totals.overlaps i j ≤ overlap_at l.totals.overlaps i i;
   small_overlaps : (i j : ℕ) → j ≤ most_candidates → overlap_at l.totals.overlaps i j ≤ voter_count (take (length l.yielded) l.self.profile.now.rows) * most_sum l.self.given.now.sums;

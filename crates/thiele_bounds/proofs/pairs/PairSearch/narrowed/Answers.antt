@@ -1,6 +1,6 @@
 use Rattle.std.proofs.Common.{rules, refl, ◌≡◌, ℕ, ◌+◌, ◌-◌, ◌*◌, ◌^◌, ◌≤◌, ap, arith, get_or}
 use Rattle.std.proofs.Math.Nat.{mul-le-mul, mul-le-mul_left}
-use Rattle.ballot_base.specs.Limits.{most_candidates}
+use Rattle.ballot_base.specs.Limits.{most_candidates, most_increments}
 use Rattle.thiele_bounds.specs.Steps.Paired.{overlap_at, pair_place}
 use Rattle.tie_walk.specs.Values.{thiele_value}
 use Rattle.row_multipliers.proofs.CompletionLemmas.{completion-few}
@@ -14,9 +14,9 @@ left-fits : (g : _) (c : After-from-factor g) → c.args.node.now.left ≤ 255
 left-fits g c = search rules
 
 -- products that fit
-kept-fits : (factor kept : ℕ) → factor ≤ 255 → kept ≤ 2 ^ 71 → 2 * factor * kept ≤ 2 ^ 80
-kept-fits factor kept few small =
-    let all : 2 * factor * kept ≤ 510 * 2 ^ 71 = mul-le-mul (let top : 2 * factor ≤ 510 = omega (arith, few) in top) small in
+constant-fits : (factor constant : ℕ) → factor ≤ 255 → constant ≤ 2 ^ 71 → 2 * factor * constant ≤ 2 ^ 80
+constant-fits factor constant few small =
+    let all : 2 * factor * constant ≤ 510 * 2 ^ 71 = mul-le-mul (let top : 2 * factor ≤ 510 = omega (arith, few) in top) small in
     omega (arith, all)
 
 worth-raise : (factor overlap : ℕ) → factor ≤ 255 → overlap ≤ 2 ^ 58 → 2 * factor * overlap ≤ 2 ^ 67
@@ -24,7 +24,7 @@ worth-raise factor overlap few small =
     let all : 2 * factor * overlap ≤ 510 * 2 ^ 58 = mul-le-mul (let top : 2 * factor ≤ 510 = omega (arith, few) in top) small in
     omega (arith, all)
 
-raise-fits : (a b factor overlap : ℕ) → a ≤ 255 → b ≤ 255 → factor ≤ 255 → overlap ≤ 2 ^ 58 → a * b * (2 * factor * overlap) ≤ 2 ^ 84
+raise-fits : (a b factor overlap : ℕ) → a ≤ 255 → b ≤ 255 → factor ≤ 255 → overlap ≤ 2 ^ 58 → a * b * (2 * factor * overlap) ≤ most_increments
 raise-fits a b factor overlap few less low small =
     let raise : 2 * factor * overlap ≤ 510 * 2 ^ 58 = mul-le-mul (let top : 2 * factor ≤ 510 = omega (arith, low) in top) small in
     let square : a * b ≤ 255 * 255 = mul-le-mul few less in
@@ -49,7 +49,7 @@ raise-enough g c i j row column =
 -- what is due
 due-low : (g : _) (c : After-saturating_sub g)
     → c.saturating_sub.result
-    ≤ 2 * (c.args.node.now.left - 1) * c.units.result + c.args.node.now.left * c.args.node.now.left * (2 * c.from-factor.result * c.from.result) - 2 * (c.args.node.now.left - 1) * c.add_ballots.new.totals.kept
+    ≤ 2 * (c.args.node.now.left - 1) * c.units.result + c.args.node.now.left * c.args.node.now.left * (2 * c.from-factor.result * c.from.result) - 2 * (c.args.node.now.left - 1) * c.add_ballots.new.totals.constant
 due-low g c =
     let turned : c.units.result * (2 * c.from-factor.result) ≡ 2 * c.from-factor.result * c.units.result = omega arith in
     omega (
@@ -59,7 +59,7 @@ due-low g c =
       c.saturating_mul.ensures,
       turned,
       ap (λ n. 2 * n * c.units.result) c.from-factor.ensures,
-      ap (λ n. 2 * n * c.add_ballots.new.totals.kept) c.from-factor.ensures,
+      ap (λ n. 2 * n * c.add_ballots.new.totals.constant) c.from-factor.ensures,
       ap (λ n. n * c.from-3.result * (2 * c.from-factor.result * c.from.result)) c.from-2.ensures,
       ap (λ n. c.args.node.now.left * n * (2 * c.from-factor.result * c.from.result)) c.from-3.ensures,
     )
@@ -72,7 +72,7 @@ returns g c weights sums =
     let totals = c.add_ballots.new.totals in
     let raise = 2 * c.from-factor.result * c.from.result in
     narrowed-members (thiele_value weights e.rows) e.m node.set node.free node.left c.args.self.now.least (λ n. get_or c.sums.result n 0) c.saturating_sub.result c.args.self.now.size c.requires.is_node
-    (λ committee whole reaches. pairs-pay weights given.scale given.unit e.m e.rows node.set node.free node.left totals.kept totals.worths totals.overlaps c.requires.is_node c.args.self.now.size
+    (λ committee whole reaches. pairs-pay weights given.scale given.unit e.m e.rows node.set node.free node.left totals.constant totals.worths totals.overlaps c.requires.is_node c.args.self.now.size
     c.requires.several given.some (c.add_ballots.ensures.totals weights sums) c.args.self.now.least c.units.result raise c.units.ensures (raise-enough g (goal.at.returns g c).After-from) c.sums.result c.sums.ensures c.saturating_sub.result
     (due-low g (goal.at.returns g c).After-saturating_sub) committee whole reaches)
     c.members_for.result c.members_for.ensures
@@ -92,7 +92,7 @@ pub overflow_mul-factor-2 : goal.overflow_mul-factor-2
 overflow_mul-factor-2 g c =
     omega (
       arith,
-      kept-fits c.from-factor.result c.add_ballots.new.totals.kept (omega (arith, c.from-factor.ensures, left-fits g (goal.at.overflow_mul-factor-2 g c).After-from-factor)) c.add_ballots.ensures.small.kept_small,
+      constant-fits c.from-factor.result c.add_ballots.new.totals.constant (omega (arith, c.from-factor.ensures, left-fits g (goal.at.overflow_mul-factor-2 g c).After-from-factor)) c.add_ballots.ensures.small.constant_small,
     )
 
 pub returns-then-len-node : goal.returns-then-len-node
@@ -107,7 +107,7 @@ returns-then-len-node g c weights are committee whole =
 
 pub add_ballots-requires-clause-nothing : goal.add_ballots-requires-clause-nothing
 add_ballots-requires-clause-nothing g c = record {
-  kept_none = refl;
+  constant_none = refl;
   worths_none = c.none.ensures;
   overlaps_none = λ i j. no_total 2145 (pair_place i j);
 }

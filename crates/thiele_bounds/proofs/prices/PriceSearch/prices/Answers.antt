@@ -31,14 +31,14 @@ fits g c =
 pub multiplier-multiplier-requires : goal.multiplier-multiplier-requires
 multiplier-multiplier-requires g c = record { fits = fits g (goal.at.multiplier-multiplier-requires g c).After-min-most }
 
-pub kept-given-requires-clause-fits : goal.kept-given-requires-clause-fits
-kept-given-requires-clause-fits g c = fits g (goal.at.kept-given-requires-clause-fits g c).After-min-most
+pub constant-given-requires-clause-fits : goal.constant-given-requires-clause-fits
+constant-given-requires-clause-fits g c = fits g (goal.at.constant-given-requires-clause-fits g c).After-min-most
 
 pub loop-i-init : goal.loop-i-init
 loop-i-init g c = record {
   totals = λ weights are. totals-none weights c.args.self.now.given.now.scale c.args.self.now.given.now.unit c.profile-profile.result.now.m c.profile-profile.result.now.rows c.args.node.now.set c.args.node.now.free
-      c.args.node.now.left 0 c.none-worths.result [] record { kept_none = refl; worths_none = c.none-worths.ensures; overlaps_none = λ i j. refl };
-  small_kept = omega arith;
+      c.args.node.now.left 0 c.none-worths.result [] record { constant_none = refl; worths_none = c.none-worths.ensures; overlaps_none = λ i j. refl };
+  small_constant = omega arith;
   small_worths = λ n. omega (arith, c.none-worths.ensures n);
 }
 
@@ -56,10 +56,10 @@ loop-i-preserved g c =
     let valid = c.rows-i-end.ensures.valid in
     let approved = c.common-approved.result in
     let multiplier = c.multiplier-multiplier.result in
-    let kept = c.kept-given.result.0 in
+    let constant = c.constant-given.result.0 in
     let after = (goal.at.loop-i-preserved g c).After-min-most in
     let most : c.min-most.result ≡ min c.args.node.now.left (hits row.0 free) = c.min-most.ensures ∙ ap (min c.args.node.now.left) (open-is g after) in
-    let keeps : c.from-count.result * c.from.result ≡ row.1 * kept =
+    let keeps : c.from-count.result * c.from.result ≡ row.1 * constant =
     ap (λ x. x * c.from.result) c.from-count.ensures ∙ ap (λ x. row.1 * x) c.from.ensures in
     let price : c.from-count.result * c.from-in-loop-i.result ≡ row.1 * multiplier =
     ap (λ x. x * c.from-in-loop-i.result) c.from-count.ensures ∙ ap (λ x. row.1 * x) c.from-in-loop-i.ensures in
@@ -67,15 +67,15 @@ loop-i-preserved g c =
     λ n in_. c.add.ensures n
     ∙ ap (λ x. get_or c.loop-i.worths n 0 + cond (has_member approved n) x 0) price
     ∙ ap (λ b. get_or c.loop-i.worths n 0 + cond b (row.1 * multiplier) 0) (ap (λ l. has_member l n) c.common-approved.ensures ∙ free-common row.0 free n in_) in
-    let small_kept : row.1 * kept ≤ row.1 * 2 ^ 46 = mul-le-mul_left row.1 c.kept-given.ensures.small in
+    let small_constant : row.1 * constant ≤ row.1 * 2 ^ 46 = mul-le-mul_left row.1 c.constant-given.ensures.small in
     let small_worth : row.1 * multiplier ≤ row.1 * 2 ^ 46 = mul-le-mul_left row.1 c.multiplier-multiplier.ensures in
     let voters = voters-more e valid i row at in
     record {
-      totals = λ weights are. subst (λ n. AreTotals weights given.scale given.unit e.m (take (i + 1) e.rows) set free c.args.node.now.left (c.loop-i.kept + n) c.add.new.self []) (sym keeps)
-          (totals-more e valid i row at weights given.sums given.scale given.unit set free c.args.node.now.left c.len-before.result c.min-most.result kept multiplier 0 c.loop-i.kept c.loop-i.worths c.add.new.self [] [] (rw c.profile-profile.ensures c.requires.is_node) are
-          (before-is g after) most (λ h few. omega (arith, c.kept-given.ensures.bounds h few)) (inv.totals weights are) worths
+      totals = λ weights are. subst (λ n. AreTotals weights given.scale given.unit e.m (take (i + 1) e.rows) set free c.args.node.now.left (c.loop-i.constant + n) c.add.new.self []) (sym keeps)
+          (totals-more e valid i row at weights given.sums given.scale given.unit set free c.args.node.now.left c.len-before.result c.min-most.result constant multiplier 0 c.loop-i.constant c.loop-i.worths c.add.new.self [] [] (rw c.profile-profile.ensures c.requires.is_node) are
+          (before-is g after) most (λ h few. omega (arith, c.constant-given.ensures.bounds h few)) (inv.totals weights are) worths
           (λ a b here there. omega (arith, portion-most (has_member row.0 a) (has_member row.0 b) (row.1 * 0))));
-      small_kept = omega (arith, keeps, small_kept, voters, inv.small_kept);
+      small_constant = omega (arith, keeps, small_constant, voters, inv.small_constant);
       small_worths = λ n. omega (
         arith,
         price,

@@ -7,7 +7,7 @@ use Rattle.thiele_bounds.proofs.prices.PriceSearch.prices.Given as goal
 abbrev pub invariant-loop-i : goal.invariant-loop-i
 invariant-loop-i g l = record {
   totals : (weights : List ℕ) → AreSums weights l.self.given.now.scale l.self.given.now.unit l.self.given.now.sums
-      → AreTotals weights l.self.given.now.scale l.self.given.now.unit l.profile.m (take l.i l.profile.rows) l.node.set l.node.free l.node.left l.kept l.worths [];
-  small_kept : l.kept ≤ voter_count (take l.i l.profile.rows) * 2 ^ 46;
+      → AreTotals weights l.self.given.now.scale l.self.given.now.unit l.profile.m (take l.i l.profile.rows) l.node.set l.node.free l.node.left l.constant l.worths [];
+  small_constant : l.constant ≤ voter_count (take l.i l.profile.rows) * 2 ^ 46;
   small_worths : (n : ℕ) → get_or l.worths n 0 ≤ voter_count (take l.i l.profile.rows) * 2 ^ 46;
 }

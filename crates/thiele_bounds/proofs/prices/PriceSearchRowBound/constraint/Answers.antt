@@ -10,7 +10,7 @@ returns-clause-constraint g c committee whole reaches =
     let self = c.args.self.now in
     let tally = self.tally.now in
     let given = self.given.now in
-    let prices = c.prices-kept.result in
+    let prices = c.prices-constant.result in
     let value : given.scale * self.least ≤ given.scale * tally_value tally committee = mul-le-mul_left given.scale reaches in
-    let bound = c.prices-kept.ensures.totals (increments tally.rule tally.k) self.sums committee whole in
-    c.units.ensures (prices.kept + sum_by (slice_index prices.worths) (common_members c.args.node.now.free committee)) (omega (arith, value, bound))
+    let bound = c.prices-constant.ensures.totals (increments tally.rule tally.k) self.sums committee whole in
+    c.units.ensures (prices.constant + sum_by (slice_index prices.worths) (common_members c.args.node.now.free committee)) (omega (arith, value, bound))

@@ -23,7 +23,7 @@ returns g c tally are most is_node =
       arith,
       c.saturating_sub-due.ensures,
       c.saturating_add-paid.ensures,
-      c.units.ensures (priced.whole.kept + sum_by worth node.set + sum_by worth (common_members node.free committee)) (omega (arith, value, bound, ap (λ n. priced.given.unit * (priced.whole.kept + n)) members)),
+      c.units.ensures (priced.whole.constant + sum_by worth node.set + sum_by worth (common_members node.free committee)) (omega (arith, value, bound, ap (λ n. priced.given.unit * (priced.whole.constant + n)) members)),
       sum-less worth (λ n. get_or priced.whole.worths n 0 - 0) node.set (λ n here. omega arith),
       c.excess.ensures.sum,
     ))

@@ -3,7 +3,7 @@ use Rattle.ballot_base.specs.Limits.{most_candidates, most_members}
 use Rattle.ballot_base.specs.CandSet.{has_member}
 use Rattle.ballot_base.specs.Ballots.{hits}
 use Rattle.tie_walk.proofs.TightLemmas.{hits-most}
-use Rattle.thiele_search.specs.Steps.Columns.{block_voters, total, shared, given}
+use Rattle.thiele_search.specs.Steps.Columns.{block_voters, total, shared, given, column_limit}
 use Rattle.thiele_search.proofs.ColumnLemmas.{given_below, given-sum, given-whole, one-added, one-most}
 use Rattle.row_multipliers.proofs.SearchLemmas.{rest-increasing}
 use Rattle.thiele_search.proofs.columns.Columns.add_block.Goals as goal
@@ -46,7 +46,7 @@ returns-clause-sum g c ballot_at block n in_ =
     omega (arith, made, summed, whole, ap (λ l. cond (has_member l n) part 0) c.in-None.ensures.steps.0, ap (λ b. cond b part 0) in_)
 
 -- a gain stays small
-gain-fits : (done : Bool) (before gain part : ℕ) → before < 2 ^ 106 → gain ≤ before + cond done 0 (most_members * 2 ^ 50) → part ≤ most_members * 2 ^ 50 → gain + part < 2 ^ 122
+gain-fits : (done : Bool) (before gain part : ℕ) → before < column_limit → gain ≤ before + cond done 0 (most_members * 2 ^ 50) → part ≤ most_members * 2 ^ 50 → gain + part < 2 ^ 122
 gain-fits true before gain part low near more = omega arith
 gain-fits false before gain part low near more = omega arith
 

@@ -47,15 +47,15 @@ overflow_add-child g c =
       valued-small c.args.self.now (with_member c.args.node.now.set c.args.next) (c.args.node.now.value + c.of.result) (joined g (goal.at.overflow_add-child g c).After-of),
     )
 
-pub promising-kept-requires-clause-is_node : goal.promising-kept-requires-clause-is_node
-promising-kept-requires-clause-is_node g c =
+pub promising-promising-requires-clause-is_node : goal.promising-promising-requires-clause-is_node
+promising-promising-requires-clause-is_node g c =
     rw (c.with.ensures, c.without.ensures) (node-with c.args.self.now.election.m c.args.node.now.set c.args.node.now.free c.args.next c.requires.node.is_node c.requires.next)
 
-pub promising-kept-requires-clause-valued : goal.promising-kept-requires-clause-valued
-promising-kept-requires-clause-valued g c = rw c.with.ensures (joined g (goal.at.promising-kept-requires-clause-valued g c).After-of)
+pub promising-promising-requires-clause-valued : goal.promising-promising-requires-clause-valued
+promising-promising-requires-clause-valued g c = rw c.with.ensures (joined g (goal.at.promising-promising-requires-clause-valued g c).After-of)
 
-pub promising-kept-requires-clause-gains : goal.promising-kept-requires-clause-gains
-promising-kept-requires-clause-gains g c n is =
+pub promising-promising-requires-clause-gains : goal.promising-promising-requires-clause-gains
+promising-promising-requires-clause-gains g c n is =
     let tally = c.args.self.now in
     let node = c.args.node.now in
     let here : has_member node.free n ≡ true = without-is node.free c.args.next n (rw c.without.ensures at is) in
@@ -83,8 +83,8 @@ returns-clause-child g c =
     record {
       set = c.with.ensures;
       left = refl;
-      narrowed = rw c.unwrap_or-free.ensures (by-default c.promising-kept.result c.empty.result (IsOutOfReach V m set free (node.left - 1) least) (IsNarrowed V m set free (node.left - 1) least)
-          (rw (c.with.ensures, c.without.ensures) at c.promising-kept.ensures)
+      narrowed = rw c.unwrap_or-free.ensures (by-default c.promising-promising.result c.empty.result (IsOutOfReach V m set free (node.left - 1) least) (IsNarrowed V m set free (node.left - 1) least)
+          (rw (c.with.ensures, c.without.ensures) at c.promising-promising.ensures)
           (λ out. rw c.empty.ensures (narrowed-empty V m set free (node.left - 1) least is_node out)));
     }
 

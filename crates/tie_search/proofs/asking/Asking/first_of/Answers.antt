@@ -23,9 +23,9 @@ returns-in_default-clause-step g c = absurd (stuck _ _ _ _ _ c.loop-parts.invari
 
 pub ask-requires-clause-branch : goal.ask-requires-clause-branch
 ask-requires-clause-branch g c =
-    let best = c.args.best.now in
+    let oracle = c.args.oracle.now in
     rw c.with.ensures
-    (with-branch (g.S.Tally.value_of best.search) (g.S.Tally.candidates best.search) best.k c.loop-parts.branch c.loop-parts.invariant.way.branch_is (omega (arith, c.loop-parts-test.true, c.len.ensures.count))
+    (with-branch (g.S.Tally.value_of oracle.search) (g.S.Tally.candidates oracle.search) oracle.k c.loop-parts.branch c.loop-parts.invariant.way.branch_is (omega (arith, c.loop-parts-test.true, c.len.ensures.count))
     c.in-Some.parts.0 c.in-Some.parts.1 c.in-Some.ensures)
 
 pub push-requires : goal.push-requires
@@ -39,32 +39,32 @@ loop-parts-smaller-in-Some-ask g c = omega (arith, ap length c.in-Some.ensures)
 
 pub loop-parts-preserved-in-Some-ask : goal.loop-parts-preserved-in-Some-ask
 loop-parts-preserved-in-Some-ask g c =
-    let best = c.args.best.now in
-    let value = g.S.Tally.value_of best.search in
-    let m = g.S.Tally.candidates best.search in
+    let oracle = c.args.oracle.now in
+    let value = g.S.Tally.value_of oracle.search in
+    let m = g.S.Tally.candidates oracle.search in
     let branch = c.loop-parts.branch in
     let was = c.loop-parts.self in
     let items = was.branches.items in
     let way = c.loop-parts.invariant.way in
     let next = c.in-Some.parts.0 in
     let rest = c.in-Some.parts.1 in
-    let short : length branch.set < best.k = omega (arith, c.loop-parts-test.true, c.len.ensures.count) in
-    let wins : IsWinnerOf value m best.k (joined branch next rest) c.in-Some-ask.winner = rw c.with.ensures at c.in-Some-ask.ensures.answer in
-    let step = joined-step value m best.k items branch was.entered way.branch_is short next rest c.in-Some.ensures c.in-Some-ask.winner wins in
+    let short : length branch.set < oracle.k = omega (arith, c.loop-parts-test.true, c.len.ensures.count) in
+    let wins : IsWinnerOf value m oracle.k (joined branch next rest) c.in-Some-ask.winner = rw c.with.ensures at c.in-Some-ask.ensures.answer in
+    let step = joined-step value m oracle.k items branch was.entered way.branch_is short next rest c.in-Some.ensures c.in-Some-ask.winner wins in
     rw (c.with.ensures, c.push.ensures.items) record {
       way = record {
-        stacked = stack-push value m best.k 0 items (passed branch rest) way.stacked (without-branch value m best.k branch way.branch_is short next rest c.in-Some.ensures) (omega (arith, way.size_is));
-        branch_is = with-branch value m best.k branch way.branch_is short next rest c.in-Some.ensures;
+        stacked = stack-push value m oracle.k 0 items (passed branch rest) way.stacked (without-branch value m oracle.k branch way.branch_is short next rest c.in-Some.ensures) (omega (arith, way.size_is));
+        branch_is = with-branch value m oracle.k branch way.branch_is short next rest c.in-Some.ensures;
         size_is = omega (
           arith,
-          grown-size value m best.k branch way.branch_is short next rest c.in-Some.ensures,
+          grown-size value m oracle.k branch way.branch_is short next rest c.in-Some.ensures,
           way.size_is,
           length-append items (passed branch rest ∷ []),
         );
         reached = wins;
         fits = omega (arith, way.fits, step.counted);
       };
-      step = then-step value m best.k (c.args.self.now.branches.items ++ c.args.branch ∷ []) (items ++ branch ∷ []) ((items ++ passed branch rest ∷ []) ++ joined branch next rest ∷ [])
+      step = then-step value m oracle.k (c.args.self.now.branches.items ++ c.args.branch ∷ []) (items ++ branch ∷ []) ((items ++ passed branch rest ∷ []) ++ joined branch next rest ∷ [])
           c.args.self.now.entered was.entered (was.entered + 1) [] [] c.loop-parts.invariant.step step;
       rises = omega (arith, c.loop-parts.invariant.rises, c.ask.ensures.rises);
       asked = omega (arith, c.loop-parts.invariant.asked, c.ask.ensures.asked, ap length c.in-Some.ensures);
@@ -75,9 +75,9 @@ loop-parts-smaller g c = omega (arith, ap length c.minus-branch.ensures, minus-m
 
 pub loop-parts-preserved : goal.loop-parts-preserved
 loop-parts-preserved g c =
-    let best = c.args.best.now in
-    let value = g.S.Tally.value_of best.search in
-    let m = g.S.Tally.candidates best.search in
+    let oracle = c.args.oracle.now in
+    let value = g.S.Tally.value_of oracle.search in
+    let m = g.S.Tally.candidates oracle.search in
     let branch = c.loop-parts.branch in
     let was = c.loop-parts.self in
     let way = c.loop-parts.invariant.way in
@@ -85,15 +85,15 @@ loop-parts-preserved g c =
     let rest = c.in-Some.parts.1 in
     let table = c.clones.result.now in
     let other = passed branch (other_members rest (slice_index_or table next [])) in
-    let short : length branch.set < best.k = omega (arith, c.loop-parts-test.true, c.len.ensures.count) in
-    let alike : AreAlike value m (λ n. slice_index_or table n []) = alike-table value m (g.S.WithClones.class_of best.search) table c.clones.ensures.table c.clones.ensures.alike in
-    let none : IsBarren value m best.k (joined branch next rest) = rw c.with.ensures at c.in_default-ask.ensures.answer in
-    let same = left-completes value m best.k branch way.branch_is short next rest c.in-Some.ensures table alike none in
-    let step = left-step value m best.k was.branches.items branch was.entered other (λ i. branch.set) (same-winners value m best.k branch other same) in
+    let short : length branch.set < oracle.k = omega (arith, c.loop-parts-test.true, c.len.ensures.count) in
+    let alike : AreAlike value m (λ n. slice_index_or table n []) = alike-table value m (g.S.WithClones.class_of oracle.search) table c.clones.ensures.table c.clones.ensures.alike in
+    let none : IsBarren value m oracle.k (joined branch next rest) = rw c.with.ensures at c.in_default-ask.ensures.answer in
+    let same = left-completes value m oracle.k branch way.branch_is short next rest c.in-Some.ensures table alike none in
+    let step = left-step value m oracle.k was.branches.items branch was.entered other (λ i. branch.set) (same-winners value m oracle.k branch other same) in
     rw (c.minus-branch.ensures ∙ ap (other_members rest) c.class.ensures) record {
       way = record {
         stacked = way.stacked;
-        branch_is = left-branch value m best.k branch way.branch_is short next rest c.in-Some.ensures table alike none;
+        branch_is = left-branch value m oracle.k branch way.branch_is short next rest c.in-Some.ensures table alike none;
         size_is = way.size_is;
         reached = record {
           best = way.reached.best;
@@ -101,7 +101,7 @@ loop-parts-preserved g c =
         };
         fits = omega (arith, way.fits, step.counted);
       };
-      step = then-step value m best.k (c.args.self.now.branches.items ++ c.args.branch ∷ []) (was.branches.items ++ branch ∷ []) (was.branches.items ++ other ∷ [])
+      step = then-step value m oracle.k (c.args.self.now.branches.items ++ c.args.branch ∷ []) (was.branches.items ++ branch ∷ []) (was.branches.items ++ other ∷ [])
           c.args.self.now.entered was.entered was.entered [] [] c.loop-parts.invariant.step step;
       rises = omega (arith, c.loop-parts.invariant.rises, c.ask.ensures.rises);
       asked = omega (arith, c.loop-parts.invariant.asked, c.ask.ensures.asked, minus-most rest (slice_index_or table next []), ap length c.in-Some.ensures);
@@ -123,6 +123,6 @@ pub returns-clause-step : goal.returns-clause-step
 returns-clause-step g c =
     let asking = c.loop-parts.self in
     let branch = c.loop-parts.branch in
-    then-step _ _ c.args.best.now.k (c.args.self.now.branches.items ++ c.args.branch ∷ []) (asking.branches.items ++ branch ∷ []) asking.branches.items
+    then-step _ _ c.args.oracle.now.k (c.args.self.now.branches.items ++ c.args.branch ∷ []) (asking.branches.items ++ branch ∷ []) asking.branches.items
     c.args.self.now.entered asking.entered asking.entered [] (branch.set ∷ []) c.loop-parts.invariant.step
     (whole _ _ _ asking branch c.loop-parts.invariant.way (omega (arith, c.loop-parts-test.false, c.len.ensures.count)))

@@ -7,19 +7,19 @@ use Rattle.tie_search.proofs.asking.Asking.next.Goals as goal
 use Rattle.tie_search.proofs.asking.Asking.next.Goals.{In-Some, In_default, After-pop, After-first_of}
 
 -- what was true before the last branch was taken off the stack
-before : (g : _) (c : After-pop g) → IsAskingIn g.S.Tally.value_of g.S.Tally.candidates c.args.best.now c.loop-branch.self
+before : (g : _) (c : After-pop g) → IsAskingIn g.S.Tally.value_of g.S.Tally.candidates c.args.oracle.now c.loop-branch.self
 before g c = c.loop-branch.invariant.asking
 
-so-far : (g : _) (c : After-pop g) → IsStepIn g.S.Tally.value_of g.S.Tally.candidates c.args.best.now c.args.self.now [] c.loop-branch.self
+so-far : (g : _) (c : After-pop g) → IsStepIn g.S.Tally.value_of g.S.Tally.candidates c.args.oracle.now c.args.self.now [] c.loop-branch.self
 so-far g c = c.loop-branch.invariant.step
 
 popped : (g : _) (c : In-Some g)
-    → let best = c.args.best.now in let m = g.S.Tally.candidates best.search in let branches = c.pop.new.self.items in
-    AreStacked m best.k 0 branches × IsBranch m best.k c.in-Some.branch × (length c.in-Some.branch.set ≡ 0 + length branches)
+    → let oracle = c.args.oracle.now in let m = g.S.Tally.candidates oracle.search in let branches = c.pop.new.self.items in
+    AreStacked m oracle.k 0 branches × IsBranch m oracle.k c.in-Some.branch × (length c.in-Some.branch.set ≡ 0 + length branches)
 popped g c =
-    let best = c.args.best.now in
-    let m = g.S.Tally.candidates best.search in
-    stack-pop (g.S.Tally.value_of best.search) m best.k 0 c.pop.new.self.items c.in-Some.branch (subst (AreStacked m best.k 0) c.in-Some.ensures.items (before g (goal.at.In-Some g c).After-pop).stacked)
+    let oracle = c.args.oracle.now in
+    let m = g.S.Tally.candidates oracle.search in
+    stack-pop (g.S.Tally.value_of oracle.search) m oracle.k 0 c.pop.new.self.items c.in-Some.branch (subst (AreStacked m oracle.k 0) c.in-Some.ensures.items (before g (goal.at.In-Some g c).After-pop).stacked)
 
 pub loop-branch-init : goal.loop-branch-init
 loop-branch-init g c = record {
@@ -47,13 +47,13 @@ first_of-requires-clause-way g c =
     }
 
 -- the way down to the first winner
-found : (g : _) (c : After-first_of g) → IsStepIn g.S.Tally.value_of g.S.Tally.candidates c.args.best.now c.args.self.now (c.first_of.result ∷ []) c.first_of.new.self
+found : (g : _) (c : After-first_of g) → IsStepIn g.S.Tally.value_of g.S.Tally.candidates c.args.oracle.now c.args.self.now (c.first_of.result ∷ []) c.first_of.new.self
 found g c =
-    let best = c.args.best.now in
+    let oracle = c.args.oracle.now in
     let was = c.args.self.now in
     let now = c.loop-branch.self in
     let new = c.first_of.new.self in
-    then-step (g.S.Tally.value_of best.search) (g.S.Tally.candidates best.search) best.k was.branches.items now.branches.items new.branches.items was.entered now.entered new.entered [] (c.first_of.result ∷ [])
+    then-step (g.S.Tally.value_of oracle.search) (g.S.Tally.candidates oracle.search) oracle.k was.branches.items now.branches.items new.branches.items was.entered now.entered new.entered [] (c.first_of.result ∷ [])
     (so-far g (goal.at.After-first_of g c).After-pop) (rw c.in-Some.ensures.items c.first_of.ensures.step)
 
 pub returns-in-Some-ask-clause-step : goal.returns-in-Some-ask-clause-step
@@ -61,10 +61,10 @@ returns-in-Some-ask-clause-step g c = found g (goal.at.returns-in-Some-ask-claus
 
 pub returns-in-Some-ask-clause-asked : goal.returns-in-Some-ask-clause-asked
 returns-in-Some-ask-clause-asked g c =
-    let best = c.args.best.now in
-    let value = g.S.Tally.value_of best.search in
-    let m = g.S.Tally.candidates best.search in
-    let free = free-most value m best.k c.in-Some.branch (popped g (goal.at.returns-in-Some-ask-clause-asked g c).In-Some).1 in
+    let oracle = c.args.oracle.now in
+    let value = g.S.Tally.value_of oracle.search in
+    let m = g.S.Tally.candidates oracle.search in
+    let free = free-most value m oracle.k c.in-Some.branch (popped g (goal.at.returns-in-Some-ask-clause-asked g c).In-Some).1 in
     let size = length-append c.pop.new.self.items (c.in-Some.branch ∷ []) in
     let items = ap length c.in-Some.ensures.items in
     record {
@@ -78,17 +78,17 @@ loop-branch-smaller g c = omega (arith, ap length c.in-Some.ensures.items, lengt
 
 pub loop-branch-preserved : goal.loop-branch-preserved
 loop-branch-preserved g c =
-    let best = c.args.best.now in
-    let value = g.S.Tally.value_of best.search in
-    let m = g.S.Tally.candidates best.search in
+    let oracle = c.args.oracle.now in
+    let value = g.S.Tally.value_of oracle.search in
+    let m = g.S.Tally.candidates oracle.search in
     let was = c.args.self.now in
     let now = c.loop-branch.self in
     let rest = c.pop.new.self.items in
     let parts = popped g (goal.at.loop-branch-preserved g c).In-Some in
     let is = before g (goal.at.loop-branch-preserved g c).After-pop in
     let size = length-append rest (c.in-Some.branch ∷ []) in
-    let step : IsStep value m best.k now.branches.items now.entered [] rest now.entered =
-    rw c.in-Some.ensures.items (barren-step value m best.k rest c.in-Some.branch now.entered c.in_default-ask.ensures.answer) in
+    let step : IsStep value m oracle.k now.branches.items now.entered [] rest now.entered =
+    rw c.in-Some.ensures.items (barren-step value m oracle.k rest c.in-Some.branch now.entered c.in_default-ask.ensures.answer) in
     record {
       asking = record {
         found_is = is.found_is;
@@ -96,7 +96,7 @@ loop-branch-preserved g c =
         few = omega (arith, is.few, ap length c.in-Some.ensures.items, size);
         fits = omega (arith, is.fits, step.counted);
       };
-      step = then-step value m best.k was.branches.items now.branches.items rest was.entered now.entered now.entered [] [] (so-far g (goal.at.loop-branch-preserved g c).After-pop) step;
+      step = then-step value m oracle.k was.branches.items now.branches.items rest was.entered now.entered now.entered [] [] (so-far g (goal.at.loop-branch-preserved g c).After-pop) step;
       rises = omega (arith, c.ask.ensures.rises, c.loop-branch.invariant.rises);
       asked = omega (arith, c.ask.ensures.asked, c.loop-branch.invariant.asked, ap length c.in-Some.ensures.items, size);
     }

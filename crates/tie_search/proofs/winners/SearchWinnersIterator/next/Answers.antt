@@ -4,7 +4,7 @@ use Rattle.std.specs.Iterator.{YieldsFirst}
 use Rattle.tie_search.specs.Asked.{Asked, IsNextAsked}
 use Rattle.tie_search.specs.Steps.Branches.{AreAskedIn, IsAskingIn, IsListing, IsStepIn, left_by, to_enter}
 use Rattle.tie_search.specs.declared.asking.Asking.{Asking}
-use Rattle.tie_search.specs.declared.best.Best.{Best}
+use Rattle.tie_search.specs.declared.oracle.Oracle.{Oracle}
 use Rattle.tie_search.specs.declared.branch.Branch.{Branch}
 use Rattle.tie_search.proofs.winners.SearchWinnersIterator.next.Goals as goal
 
@@ -29,38 +29,38 @@ still-few each was now before found after most is spread few =
     omega (arith, spread, few, parts)
 
 module _ {S : Type 0} (value : S → List ℕ → ℕ) (class : S → ℕ → List ℕ) (candidates : S → ℕ) where
-  abbrev view : Best S → Option (List ℕ) → Asking → Asked S
-  view best after asking = record {
-    search = best.search;
-    k = best.k;
+  abbrev view : Oracle S → Option (List ℕ) → Asking → Asked S
+  view oracle after asking = record {
+    search = oracle.search;
+    k = oracle.k;
     after = after;
-    left = left_by (value best.search) (candidates best.search) best.k asking.branches.items;
+    left = left_by (value oracle.search) (candidates oracle.search) oracle.k asking.branches.items;
     entered = asking.entered;
     questions = asking.asked;
   }
 
   -- winners are listed on after a step
-  still-listing : (best : Best S) (after : Option (List ℕ)) (was now : Asking) (found : List (List ℕ)) → IsListing value class candidates best after was → IsStepIn value candidates best was found now
-      → IsAskingIn value candidates best now → AreAskedIn candidates best was found now → IsListing value class candidates best after now
-  still-listing best after was now found is step asks asked = record {
+  still-listing : (oracle : Oracle S) (after : Option (List ℕ)) (was now : Asking) (found : List (List ℕ)) → IsListing value class candidates oracle after was → IsStepIn value candidates oracle was found now
+      → IsAskingIn value candidates oracle now → AreAskedIn candidates oracle was found now → IsListing value class candidates oracle after now
+  still-listing oracle after was now found is step asks asked = record {
     knows = is.knows;
     asking_is = asks;
     counted = record {
       most = omega (arith, is.counted.most, step.counted);
       all = λ start. step.counted ∙ is.counted.all start;
-      few = still-few (candidates best.search + best.k) was now (left_by (value best.search) (candidates best.search) best.k was.branches.items) found (left_by (value best.search) (candidates best.search) best.k now.branches.items) _ step.left asked.spread is.counted.few;
+      few = still-few (candidates oracle.search + oracle.k) was now (left_by (value oracle.search) (candidates oracle.search) oracle.k was.branches.items) found (left_by (value oracle.search) (candidates oracle.search) oracle.k now.branches.items) _ step.left asked.spread is.counted.few;
     };
   }
 
-  next-asked : (best : Best S) (after : Option (List ℕ)) (was now : Asking) (winner : Option (List ℕ)) → IsListing value class candidates best after now → IsStepIn value candidates best was (option_to_list winner) now
-      → (winner ≡ None → now.branches.items ≡ []) → AreAskedIn candidates best was (option_to_list winner) now → IsNextAsked S value candidates (view best after was) winner (view best after now)
-  next-asked best after was now winner is step end asked = record {
-    first = first-of (view best after was) winner (view best after now) step.left (λ none. (nothing-left (value best.search) (candidates best.search) best.k now.branches.items (end none)).0);
+  next-asked : (oracle : Oracle S) (after : Option (List ℕ)) (was now : Asking) (winner : Option (List ℕ)) → IsListing value class candidates oracle after now → IsStepIn value candidates oracle was (option_to_list winner) now
+      → (winner ≡ None → now.branches.items ≡ []) → AreAskedIn candidates oracle was (option_to_list winner) now → IsNextAsked S value candidates (view oracle after was) winner (view oracle after now)
+  next-asked oracle after was now winner is step end asked = record {
+    first = first-of (view oracle after was) winner (view oracle after now) step.left (λ none. (nothing-left (value oracle.search) (candidates oracle.search) oracle.k now.branches.items (end none)).0);
     same_search = refl;
     same_k = refl;
     same_start = refl;
     entered_rises = step.rises;
-    all_entered = λ none start. omega (arith, is.counted.all start, (nothing-left (value best.search) (candidates best.search) best.k now.branches.items (end none)).1);
+    all_entered = λ none start. omega (arith, is.counted.all start, (nothing-left (value oracle.search) (candidates oracle.search) oracle.k now.branches.items (end none)).1);
     questions_rise = asked.rise;
     short_wait = asked.few;
   }
@@ -68,7 +68,7 @@ module _ {S : Type 0} (value : S → List ℕ → ℕ) (class : S → ℕ → Li
 pub invariant_of-self : goal.invariant_of-self
 invariant_of-self g c =
     let was = c.self.inside in
-    still-listing g.S.Tally.value_of g.S.WithClones.class_of g.S.Tally.candidates was.best was.after was.asking c.next.new.self (option_to_list c.next.result) c.self.invariant c.next.ensures.step
+    still-listing g.S.Tally.value_of g.S.WithClones.class_of g.S.Tally.candidates was.oracle was.after was.asking c.next.new.self (option_to_list c.next.result) c.self.invariant c.next.ensures.step
     c.next.ensures.asking c.next.ensures.asked
 
 pub returns-clause-steps : goal.returns-clause-steps
@@ -76,6 +76,6 @@ returns-clause-steps g c =
     let V = g.S.Tally.value_of in
     let M = g.S.Tally.candidates in
     let was = c.self.inside in
-    let listing = still-listing V g.S.WithClones.class_of M was.best was.after was.asking c.next.new.self (option_to_list c.next.result) c.self.invariant c.next.ensures.step c.next.ensures.asking c.next.ensures.asked in
-    subst (λ from. IsNextAsked g.row.S.Denot V M from c.next.result (view V g.S.WithClones.class_of M was.best was.after c.next.new.self)) c.self.view_is
-    (next-asked V g.S.WithClones.class_of M was.best was.after was.asking c.next.new.self c.next.result listing c.next.ensures.step c.next.ensures.end c.next.ensures.asked)
+    let listing = still-listing V g.S.WithClones.class_of M was.oracle was.after was.asking c.next.new.self (option_to_list c.next.result) c.self.invariant c.next.ensures.step c.next.ensures.asking c.next.ensures.asked in
+    subst (λ from. IsNextAsked g.row.S.Denot V M from c.next.result (view V g.S.WithClones.class_of M was.oracle was.after c.next.new.self)) c.self.view_is
+    (next-asked V g.S.WithClones.class_of M was.oracle was.after was.asking c.next.new.self c.next.result listing c.next.ensures.step c.next.ensures.end c.next.ensures.asked)

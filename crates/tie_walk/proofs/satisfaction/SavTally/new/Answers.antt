@@ -1,5 +1,6 @@
 use Rattle.std.proofs.Common.{◌≡◌, ℕ, ◌+◌, ◌-◌, ◌*◌, ◌^◌, ◌≤◌, ◌∙◌, Some, ap, arith, length, slice_get, take, get_or, sum_by}
 use Rattle.std.proofs.lemmas.List.{length_push}
+use Rattle.ballot_base.specs.Limits.{most_score}
 use Rattle.ballot_base.specs.Ballots.{Row}
 use Rattle.ballot_base.specs.CommonMultiple.{common_multiple}
 use Rattle.ballot_base.proofs.Turns.{row_of_turn, all_passed}
@@ -24,7 +25,7 @@ found g c =
 
 -- the scores so far and what the voters of the row give
 fits : (g : _) (c : In-Some g) (n : ℕ) → sum_by (λ (r : Row). r.1 * given c.parts-shares.result n r) (take (length c.loop-ballot.yielded) c.args.profile.now.rows)
-    + c.in-Some.voters * get_or c.parts-shares.result (length c.in-Some.ballot) 0 ≤ 2 ^ 122 - 2 ^ 32
+    + c.in-Some.voters * get_or c.parts-shares.result (length c.in-Some.ballot) 0 ≤ most_score
 fits g c n =
     score-fits c.parts-shares.result n (small g c) c.args.profile.now (length c.loop-ballot.yielded) (c.in-Some.ballot, c.in-Some.voters) c.ballots-ballot-items.ensures.valid (found g c)
 

@@ -1,5 +1,6 @@
 use Rattle.std.proofs.lemmas.Grind.{common_steps}
 use Rattle.std.proofs.Common.{◌≡◌, ℕ, ◌+◌, ◌-◌, ◌^◌, ◌≤◌, ◌<◌, ◌∙◌, List, refl, ap, sym, subst, arith, get_or}
+use Rattle.ballot_base.specs.Limits.{most_score}
 use Rattle.ballot_base.specs.Ballots.{Election}
 use Rattle.ballot_base.specs.CommonMultiple.{common_multiple}
 use Rattle.ballot_base.proofs.Increasing.{IsIncreasing-higher}
@@ -24,12 +25,12 @@ overflow_add-result g c =
     let same : e ≡ c.args.self.now = c.self.view_is in
     let shares : List ℕ = parts (common_multiple e.m) in
     let small : (i : ℕ) → get_or shares i 0 ≤ 2 ^ 90 - 1 = λ i. omega (arith, parts-bound e.m shares i c.self.invariant.election.most refl) in
-    let each : (n : ℕ) → get_or t.scores n 0 ≤ 2 ^ 122 - 2 ^ 32 = λ n. omega (arith, c.self.invariant.scores_are n, score-most shares n small e c.self.invariant.election) in
+    let each : (n : ℕ) → get_or t.scores n 0 ≤ most_score = λ n. omega (arith, c.self.invariant.scores_are n, score-most shares n small e c.self.invariant.election) in
     let size : e.m ≡ c.args.self.now.m = ap (λ (x : Election). x.m) same in
     let fits : c.value.result + c.greatest_sum.result < 2 ^ 128 =
     satisfaction-fits e shares c.args.set c.args.c c.args.left c.value.result c.greatest_sum.result c.self.invariant.election refl c.requires.candidates
     (omega (arith, size, c.requires.within)) (omega (arith, size, c.requires.fits)) (c.value.ensures ∙ ap (λ (x : Election). satisfaction_value x.m x.rows c.args.set) (sym same))
-    (c.greatest_sum.ensures.most (2 ^ 122 - 2 ^ 32) each) in
+    (c.greatest_sum.ensures.most most_score each) in
     omega arith
 
 pub returns-clause-value : goal.returns-clause-value

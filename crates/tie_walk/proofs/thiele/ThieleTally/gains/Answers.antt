@@ -1,7 +1,7 @@
 use Rattle.std.proofs.lemmas.Grind.{common_steps}
 use Rattle.std.proofs.Common.{◌≡◌, ℕ, ◌+◌, ◌*◌, ◌^◌, ◌≤◌, ◌∙◌, List, Some, cond, refl, sym, subst, ap, arith, length, slice_get, take, get_or}
 use Rattle.std.proofs.lemmas.List.{length_push}
-use Rattle.ballot_base.specs.Limits.{most_members}
+use Rattle.ballot_base.specs.Limits.{most_members, most_increments}
 use Rattle.ballot_base.specs.CandSet.{has_member}
 use Rattle.ballot_base.specs.Ballots.{Row, IsElection, hits}
 use Rattle.ballot_base.specs.Increments.{increments}
@@ -28,12 +28,12 @@ found g c =
 
 -- the gains so far and what the voters of the row give
 fits : (g : _) (c : In-Some g) (n : ℕ) → partial Grow (weights_of c.args.self.now) c.args.set n (take (length c.loop-ballot.yielded) c.args.self.now.election.rows)
-    + c.in-Some.voters * weight (weights_of c.args.self.now) (hits c.in-Some.ballot c.args.set + 1) ≤ 2 ^ 32 * 2 ^ 84
+    + c.in-Some.voters * weight (weights_of c.args.self.now) (hits c.in-Some.ballot c.args.set + 1) ≤ 2 ^ 32 * most_increments
 fits g c n =
     let t : Thiele = c.args.self.now in
     let valid : IsElection t.election = subst (λ (x : Thiele). IsElection x.election) c.self.view_is c.self.invariant.election in
     let few : t.k ≤ most_members = subst (λ (x : Thiele). x.k ≤ most_members) c.self.view_is c.self.invariant.size in
-    partial-fits Grow (weights_of t) c.args.set t.election (2 ^ 84) (length c.loop-ballot.yielded) n (c.in-Some.ballot, c.in-Some.voters) valid
+    partial-fits Grow (weights_of t) c.args.set t.election most_increments (length c.loop-ballot.yielded) n (c.in-Some.ballot, c.in-Some.voters) valid
     (λ j. weights-small t.rule t.k (weights_of t) j few refl) (found g c)
 
 given : (g : _) (c : After-weight g) → c.from.result * c.weight.result ≡ c.in-Some.voters * weight (weights_of c.args.self.now) (hits c.in-Some.ballot c.args.set + 1)
@@ -97,5 +97,5 @@ returns-clause-small g c n =
       arith,
       whole g (goal.at.returns-clause-small g c).In-None n,
       part-most (has_member c.args.others n) (gain (weights_of t) t.election.rows c.args.set n),
-      gain-most t.election (weights_of t) c.args.set n (2 ^ 84) valid (λ j. weights-small t.rule t.k (weights_of t) j few refl),
+      gain-most t.election (weights_of t) c.args.set n most_increments valid (λ j. weights-small t.rule t.k (weights_of t) j few refl),
     )

@@ -1,7 +1,7 @@
 use Rattle.std.proofs.lemmas.Grind.{common_steps}
 use Rattle.std.proofs.Common.{◌≡◌, ℕ, ◌+◌, ◌*◌, ◌^◌, ◌≤◌, ◌∙◌, List, Some, subst, ap, arith, length, slice_get, take, get_or, sum, sum_by}
 use Rattle.std.proofs.lemmas.List.{length_push}
-use Rattle.ballot_base.specs.Limits.{most_members}
+use Rattle.ballot_base.specs.Limits.{most_members, most_increments}
 use Rattle.ballot_base.specs.Ballots.{Row, IsElection, hits}
 use Rattle.ballot_base.specs.Increments.{increments}
 use Rattle.ballot_base.proofs.Turns.{row_of_turn, all_passed}
@@ -23,12 +23,12 @@ found g c =
 
 -- the sum so far and what the voters of the row give
 fits : (g : _) (c : In-Some g) → sum_by (λ (r : Row). r.1 * worth c.args.self.now c.args.set r) (take (length c.loop-ballot.yielded) c.args.self.now.election.rows)
-    + c.in-Some.voters * worth c.args.self.now c.args.set (c.in-Some.ballot, c.in-Some.voters) ≤ 2 ^ 32 * 2 ^ 84
+    + c.in-Some.voters * worth c.args.self.now c.args.set (c.in-Some.ballot, c.in-Some.voters) ≤ 2 ^ 32 * most_increments
 fits g c =
     let t : Thiele = c.args.self.now in
     let valid : IsElection t.election = subst (λ (x : Thiele). IsElection x.election) c.self.view_is c.self.invariant.election in
     let few : t.k ≤ most_members = subst (λ (x : Thiele). x.k ≤ most_members) c.self.view_is c.self.invariant.size in
-    rows-bound (worth t c.args.set) (worth t c.args.set) (λ r. omega arith) t.election (2 ^ 84) (length c.loop-ballot.yielded) (c.in-Some.ballot, c.in-Some.voters) valid
+    rows-bound (worth t c.args.set) (worth t c.args.set) (λ r. omega arith) t.election most_increments (length c.loop-ballot.yielded) (c.in-Some.ballot, c.in-Some.voters) valid
     (λ r up. omega (arith, sum-take-le (increments t.rule t.k) (hits r.0 c.args.set), increments_sum-most t.rule t.k few)) (found g c)
 
 given : (g : _) (c : After-from-in-loop-ballot g) → c.from.result * get_or c.self.inside.sums c.from-in-loop-ballot.result 0

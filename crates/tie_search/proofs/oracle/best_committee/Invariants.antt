@@ -1,6 +1,6 @@
 use Rattle.std.proofs.Common.{◌≡◌, ◌-◌, length}
 use Rattle.ballot_base.specs.Lists.{IsIncreasing}
-use Rattle.tie_search.proofs.best.best_committee.Given as goal
+use Rattle.tie_search.proofs.oracle.best_committee.Given as goal
 
 abbrev pub invariant-loop-value : goal.invariant-loop-value
 invariant-loop-value g l = record {

@@ -8,9 +8,9 @@ use Rattle.tie_walk.proofs.LawLemmas.{IsIncreasing-range}
 use Rattle.tie_walk.proofs.StepLemmas.{has_member-range}
 use Rattle.row_multipliers.specs.Completions.{IsNode, IsOutOfReach, IsReaching}
 use Rattle.tie_search.proofs.ReachLemmas.{best-found, completes-none}
-use Rattle.tie_search.proofs.best.best_committee.Given.{Over}
-use Rattle.tie_search.proofs.best.best_committee.Goals as goal
-use Rattle.tie_search.proofs.best.best_committee.Goals.{After-unwrap_or-best}
+use Rattle.tie_search.proofs.oracle.best_committee.Given.{Over}
+use Rattle.tie_search.proofs.oracle.best_committee.Goals as goal
+use Rattle.tie_search.proofs.oracle.best_committee.Goals.{After-unwrap_or-best}
 
 -- the suggested committee, or the first
 begins : (m k : ℕ) (all : List ℕ) (good : Option (List ℕ)) → IsIncreasing 1 m all → length all ≡ k → MatchOption good ⊤ (λ set. IsIncreasing 1 m set × (length set ≡ k))

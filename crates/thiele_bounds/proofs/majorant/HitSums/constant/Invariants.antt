@@ -1,5 +1,5 @@
 use Rattle.std.proofs.Common.{ℕ, ◌+◌, ◌-◌, ◌*◌, ◌≤◌, get_or}
-use Rattle.thiele_bounds.proofs.majorant.HitSums.kept.Given as goal
+use Rattle.thiele_bounds.proofs.majorant.HitSums.constant.Given as goal
 
 -- no hit so far gave less than the multiplier
 abbrev pub invariant-loop-hits : goal.invariant-loop-hits

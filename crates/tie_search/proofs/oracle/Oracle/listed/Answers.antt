@@ -3,21 +3,21 @@ use Rattle.std.proofs.lemmas.Bool.{cases_eq}
 use Rattle.std.proofs.lemmas.List.{get_or_default}
 use Rattle.ballot_base.specs.Lists.{IsIncreasing}
 use Rattle.tie_search.specs.Alike.{Becomes}
-use Rattle.tie_search.proofs.best.Best.listed.Goals as goal
+use Rattle.tie_search.proofs.oracle.Oracle.listed.Goals as goal
 
 pub loop-i-preserved : goal.loop-i-preserved
 loop-i-preserved g c = record {
   none = λ j low other becomes whole. elim (cases_eq j c.loop-i.i) [
     | inl same ↦
-        let best = c.args.self.now in
-        let m = g.S.Tally.candidates best.search in
-        let committee : List ℕ = get_or best.tied.committees c.loop-i.i c.index-self-i.result in
-        let long : length best.tied.committees ≡ 256 = search rules in
-        let at : get_or best.tied.committees c.loop-i.i [] ≡ committee =
-        get_or_default best.tied.committees c.loop-i.i [] c.index-self-i.result (omega (arith, c.loop-i-test.true, c.requires.knows.listed.few, long)) in
+        let oracle = c.args.self.now in
+        let m = g.S.Tally.candidates oracle.search in
+        let committee : List ℕ = get_or oracle.tied.committees c.loop-i.i c.index-self-i.result in
+        let long : length oracle.tied.committees ≡ 256 = search rules in
+        let at : get_or oracle.tied.committees c.loop-i.i [] ≡ committee =
+        get_or_default oracle.tied.committees c.loop-i.i [] c.index-self-i.result (omega (arith, c.loop-i-test.true, c.requires.knows.listed.few, long)) in
         let rises : IsIncreasing 1 m committee = (c.requires.knows.listed.each committee (c.loop-i.i, c.loop-i-test.true, at)).candidates in
-        let here : Becomes m (g.S.WithClones.class_of best.search) committee other = subst (λ l. Becomes m (g.S.WithClones.class_of best.search) l other) (ap (λ n. get_or best.tied.committees n []) same ∙ at) becomes in
-        c.suits.ensures c.if-suits.false m best.k (g.S.WithClones.class_of best.search) other c.requires.branch c.clones-clones.ensures.table c.clones-clones.ensures.rise c.clones-clones.ensures.classes rises here whole
+        let here : Becomes m (g.S.WithClones.class_of oracle.search) committee other = subst (λ l. Becomes m (g.S.WithClones.class_of oracle.search) l other) (ap (λ n. get_or oracle.tied.committees n []) same ∙ at) becomes in
+        c.suits.ensures c.if-suits.false m oracle.k (g.S.WithClones.class_of oracle.search) other c.requires.branch c.clones-clones.ensures.table c.clones-clones.ensures.rise c.clones-clones.ensures.classes rises here whole
     | inr other' ↦ c.loop-i.invariant.none j (omega (arith, low, other')) other becomes whole
   ];
 }

@@ -1,8 +1,8 @@
 use Rattle.std.proofs.Common.{◌≡◌, ℕ, ◌+◌, ◌*◌, ◌≤◌, List, ap, arith, inl, inr, get_or}
 use Rattle.std.proofs.lemmas.Bool.{cases_lt}
 use Rattle.thiele_bounds.proofs.PairBounds.SumLemmas.{later}
-use Rattle.thiele_bounds.proofs.majorant.HitSums.kept.Goals as goal
-use Rattle.thiele_bounds.proofs.majorant.HitSums.kept.Goals.{then-loop-hits-test+then-increment-multiplier, else-loop-hits-test}
+use Rattle.thiele_bounds.proofs.majorant.HitSums.constant.Goals as goal
+use Rattle.thiele_bounds.proofs.majorant.HitSums.constant.Goals.{then-loop-hits-test+then-increment-multiplier, else-loop-hits-test}
 
 -- what is subtracted is no more than the sum
 less : (sums : List ℕ) (before hits at taken multiplier : ℕ) → at ≡ before + hits → taken ≡ hits
@@ -12,8 +12,8 @@ less sums before hits at taken multiplier place same highest =
     let first = highest 0 (omega arith) in
     omega (arith, first, ap (λ m. get_or sums m 0) place, ap (λ m. multiplier * m) same)
 
-pub overflow_sub-kept : goal.overflow_sub-kept
-overflow_sub-kept c = less c.args.self.now.sums c.args.before c.loop-hits.hits c.from.result c.from-2.result c.args.multiplier c.from.ensures c.from-2.ensures c.loop-hits.invariant.highest
+pub overflow_sub-constant : goal.overflow_sub-constant
+overflow_sub-constant c = less c.args.self.now.sums c.args.before c.loop-hits.hits c.from.result c.from-2.result c.args.multiplier c.from.ensures c.from-2.ensures c.loop-hits.invariant.highest
 
 pub returns-clause-bounds : goal.returns-clause-bounds
 returns-clause-bounds c h few =

@@ -12,7 +12,7 @@ ghost use Rattle.ballot_base.specs.Limits.{most_candidates};
 ghost use Rattle.ballot_base.specs.Lists.{IsIncreasing};
 ghost use Rattle.tie_walk.specs.Winners.{best_value};
 ghost use Rattle.tie_search.specs.Tied.{AreBest};
-ghost use Rattle.tie_search.specs.Steps.Branches.{IsAnswerIn, IsBestIn, IsBranchIn, IsGuessIn, KnowsBest};
+ghost use Rattle.tie_search.specs.Steps.Branches.{IsAnswerIn, IsBestIn, IsBranchIn, IsGuessIn, IsOracle};
 
 use crate::branch::Branch;
 use crate::found::{MOST_TIED, Tied};
@@ -20,9 +20,9 @@ use crate::searchable::Searchable;
 use ballot_base::CandSet;
 use row_multipliers::Node;
 
-/// What is searched, and what is known of the committees of `k` with the highest value: that value and some of them.
+/// Answers which committee of `k` with the highest value completes a branch. It knows that value and some committees.
 #[derive(Drop)]
-pub(crate) struct Best<S: Searchable> {
+pub(crate) struct Oracle<S: Searchable> {
     pub(crate) search: S,
     // The number of candidates.
     pub(crate) m: u8,
@@ -31,11 +31,11 @@ pub(crate) struct Best<S: Searchable> {
     pub(crate) tied: Tied,
 }
 
-impl<S: Searchable> Best<S> {
+impl<S: Searchable> Oracle<S> {
     /// Asks for a committee with the highest value that completes the branch; `found` is any with this value. A search
     /// is made, and `asked` counts it, only if nothing cheaper decides.
     pub(crate) fn ask(&self, branch: &Branch, found: CandSet, asked: &mut u128) -> Option<CandSet>
-        requires knows { KnowsBest S.value_of S.class_of S.candidates self.now }
+        requires knows { IsOracle S.value_of S.class_of S.candidates self.now }
         requires branch { IsBranchIn S.candidates self.now branch.now }
         requires found { IsBestIn S.value_of S.candidates self.now found }
         ensures answer { IsAnswerIn S.value_of S.candidates self.now branch.now result }
@@ -80,7 +80,7 @@ impl<S: Searchable> Best<S> {
 
     /// Whether a set is a committee with the highest value that completes the branch.
     fn wins(&self, branch: &Branch, set: CandSet) -> bool
-        requires knows { KnowsBest S.value_of S.class_of S.candidates self.now }
+        requires knows { IsOracle S.value_of S.class_of S.candidates self.now }
         requires branch { IsBranchIn S.candidates self.now branch.now }
         ensures { result ≡ true → IsAnswerIn S.value_of S.candidates self.now branch.now (Some set) }
     {
@@ -93,7 +93,7 @@ impl<S: Searchable> Best<S> {
     /// A committee of the list, which must have all. It may become one that completes the branch if clones take the
     /// place of members. Returns `None` only if no committee with the highest value completes the branch.
     fn listed(&self, branch: &Branch) -> Option<CandSet>
-        requires knows { KnowsBest S.value_of S.class_of S.candidates self.now }
+        requires knows { IsOracle S.value_of S.class_of S.candidates self.now }
         requires branch { IsBranchIn S.candidates self.now branch.now }
         requires all { self.now.tied.are_all ≡ true }
         ensures { IsGuessIn S.value_of S.candidates self.now branch.now result }

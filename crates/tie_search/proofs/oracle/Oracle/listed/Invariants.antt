@@ -1,7 +1,7 @@
 use Rattle.std.proofs.Common.{◌≡◌, ◌<◌, ℕ, List, [], true, get_or}
 use Rattle.tie_search.specs.Alike.{Becomes}
 use Rattle.tie_search.specs.Steps.Branches.{completes}
-use Rattle.tie_search.proofs.best.Best.listed.Given as goal
+use Rattle.tie_search.proofs.oracle.Oracle.listed.Given as goal
 
 -- nothing that completes the branch becomes one of those that were looked at
 abbrev pub invariant-loop-i : goal.invariant-loop-i

@@ -1,12 +1,12 @@
 use Rattle.std.proofs.Common.{◌≡◌, arith, inl, inr, length}
 use Rattle.std.proofs.lemmas.Bool.{cases_lt, le-leb, lt-leb}
 use Rattle.tie_search.proofs.BranchLemmas.{branch-node, few-barren, found-answer, whole-barren, whole-winner}
-use Rattle.tie_search.proofs.best.Best.ask.Goals as goal
+use Rattle.tie_search.proofs.oracle.Oracle.ask.Goals as goal
 
 pub returns-then-len-self-clause-answer : goal.returns-then-len-self-clause-answer
 returns-then-len-self-clause-answer g c =
-    let best = c.args.self.now in
-    few-barren (g.S.Tally.value_of best.search) (g.S.Tally.candidates best.search) best.k c.args.branch.now c.requires.branch
+    let oracle = c.args.self.now in
+    few-barren (g.S.Tally.value_of oracle.search) (g.S.Tally.candidates oracle.search) oracle.k c.args.branch.now c.requires.branch
     (omega (arith, c.if-len-self.true, c.len.ensures.count, c.len-2.ensures.count))
 
 pub value-requires : goal.value-requires
@@ -14,16 +14,16 @@ value-requires g c = (branch-node (g.S.Tally.candidates c.args.self.now.search) 
 
 pub returns-then-len-self-2-clause-answer : goal.returns-then-len-self-2-clause-answer
 returns-then-len-self-2-clause-answer g c =
-    let best = c.args.self.now in
-    let value = g.S.Tally.value_of best.search in
-    let m = g.S.Tally.candidates best.search in
+    let oracle = c.args.self.now in
+    let value = g.S.Tally.value_of oracle.search in
+    let m = g.S.Tally.candidates oracle.search in
     let branch = c.args.branch.now in
     let is = c.requires.branch in
-    let whole : length branch.set ≡ best.k = omega (arith, c.if-len-self-2.true, c.len-3.ensures.count) in
+    let whole : length branch.set ≡ oracle.k = omega (arith, c.if-len-self-2.true, c.len-3.ensures.count) in
     rw c.then_some.ensures
-    (elim (cases_lt c.value.result best.value) [
-      | inl under ↦ rw (lt-leb best.value c.value.result under) (whole-barren value m best.k branch is whole (omega (arith, under, c.value.ensures, c.requires.knows.best_is)))
-      | inr reaches ↦ rw (le-leb best.value c.value.result (omega (arith, reaches))) (whole-winner value m best.k branch is whole (omega (arith, reaches, c.value.ensures, c.requires.knows.best_is)))
+    (elim (cases_lt c.value.result oracle.value) [
+      | inl under ↦ rw (lt-leb oracle.value c.value.result under) (whole-barren value m oracle.k branch is whole (omega (arith, under, c.value.ensures, c.requires.knows.best_is)))
+      | inr reaches ↦ rw (le-leb oracle.value c.value.result (omega (arith, reaches))) (whole-winner value m oracle.k branch is whole (omega (arith, reaches, c.value.ensures, c.requires.knows.best_is)))
     ])
 
 pub value-requires-2 : goal.value-requires-2
@@ -34,6 +34,6 @@ find-requires-clause-is_node g c = branch-node (g.S.Tally.candidates c.args.self
 
 pub returns-clause-answer : goal.returns-clause-answer
 returns-clause-answer g c =
-    let best = c.args.self.now in
-    found-answer (g.S.Tally.value_of best.search) (g.S.Tally.candidates best.search) best.k c.args.branch.now c.requires.branch c.find.result
+    let oracle = c.args.self.now in
+    found-answer (g.S.Tally.value_of oracle.search) (g.S.Tally.candidates oracle.search) oracle.k c.args.branch.now c.requires.branch c.find.result
     (rw (c.requires.knows.best_is, c.len-4.ensures.count) at c.find.ensures)
