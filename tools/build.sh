@@ -55,12 +55,33 @@ end_build() {
     rm -rf "${here:?}/$copy"
 }
 
+# The mark of a built crate $1: its name is the checksum of what the proof read and of the kit's version. The program has
+# none, since each build links it.
+mark_of() { echo "crates/$1/out/rlib/$({ echo "$VERSION"; checksum "$copy" "$1"; } | digest)"; }
+is_among() { case " $2 " in *" $1 "*) ;; *) return 1 ;; esac; }
+stands_on() { names_for "$copy" "$1" | grep -qx "$2"; }
+
+# Prints the crates to prove: those without a mark, and those above them, since a library serves only over the libraries
+# that it was proved over.
+waiting_crates() (
+    cd -- "$here" || exit
+    waiting=''
+    for crate in $(names_for "$copy" "$TOP"); do
+        [ "$crate" != "$TOP" ] && [ -e "$(mark_of "$crate")" ] || waiting="$waiting $crate"
+        for lower in $waiting; do
+            is_among "$crate" "$waiting" || ! stands_on "$crate" "$lower" || waiting="$waiting $crate"
+        done
+    done
+    echo "$waiting"
+)
+
 # Has make build the program of crate $1, as the file $built, and run it with the words $2. There is a job for each
-# processor for which there is memory: 2 GB.
+# processor for which there is memory: 2 GB. LONG is the chain of crates that takes longest.
 build() {
-    export here BEGAN VERSION JOBS TOP="$1" ARGS="$2"
+    export here BEGAN VERSION JOBS WAITING TOP="$1" ARGS="$2" LONG='ballot_base tie_walk thiele_bounds thiele_search'
     BEGAN=$(date +%s) VERSION=$(rt version) built=$here/$copy/rooms/$1/crates/$1/out/$1
     JOBS=$(awk -v n="$(nproc)" '/^MemAv/ { m = int($2 / 2e6) } END { print(m < 1 ? 1 : m < n ? m : n) }' /proc/meminfo)
+    WAITING=$(waiting_crates)
     logic=$(grep -o 'logic [0-9a-f]\{16\}' "$here/README.md" || true)
     case $VERSION in *"$logic") ;; *) say "rt version prints $VERSION, and README.md asks for $logic" ;; esac
     takes=''
@@ -68,6 +89,7 @@ build() {
         [ -d "$here/crates/$crate/out/rlib" ] ||
             takes=$(sed -n 's/.*builds the program first: \([0-9]* [a-z]*\).*/\1/p' "$here/README.md")
     done
+    for crate in $WAITING; do rm -rf "${here:?}/crates/$crate/out/rlib"; done
     say "proving and building with make -j $JOBS${takes:+; a first build takes about $takes on four processors}"
     MAKEFLAGS='' setsid make -s -C "$here" -f "$copy/Makefile" -j "$JOBS" build 3>&2 >"$here/$copy/log" 2>&1 &
     make=$!
@@ -90,11 +112,39 @@ build_program() {
     say "built $folder/out/$name"
 }
 
-# Called by Makefile, as is run_in_room; what is to be seen goes to file 3. Says that crate $1 begins or has ended, with
-# the time since the build began and the number of crates without a mark.
+# Called by Makefile. Proves crate $1 if it waits. The program is linked and run as well.
+build_crate() {
+    is_among "$1" "$WAITING" || return 0
+    report "$1" begins
+    if [ "$1" = "$TOP" ]; then
+        # shellcheck disable=SC2016 # the shell in the room reads $0 and $ARGS
+        run_in_room "$1" sh -c 'rt run --jobs "$0" -- $ARGS || [ -x "out/$TOP" ]' "$(jobs_for "$1")"
+    else
+        run_in_room "$1" rt lib --jobs "$(jobs_for "$1")"
+        mark=$(mark_of "$1") library=crates/$1/out/rlib
+        rm -rf "$library" && mkdir -p "crates/$1/out" && mv "$copy/rooms/$1/$library" "$library"
+        touch "$mark" && rm -rf "$copy/rooms/$1"
+    fi
+    mkdir -p "$copy/done" && touch "$copy/done/$1"
+    report "$1" "is done"
+}
+
+# Prints the number of jobs for crate $1: one less for each crate that may be proved beside it. A crate of the longest
+# chain has two of four at least.
+jobs_for() (
+    jobs=$JOBS least=1
+    ! is_among "$1" "$LONG" || [ "$JOBS" -lt 4 ] || least=2
+    for other in $WAITING; do
+        stands_on "$1" "$other" || stands_on "$other" "$1" || jobs=$((jobs - 1))
+    done
+    echo $((jobs > least ? jobs : least))
+)
+
+# Says that crate $1 begins or is done, with the time since the build began and the number of crates that wait. What is
+# to be seen goes to file 3.
 report() {
     left=0 time=$(date -u -d "@$(($(date +%s) - BEGAN))" +%H:%M:%S)
-    for mark in $MARKS; do [ -e "$mark" ] || left=$((left + 1)); done
+    for waiting in $WAITING; do [ -e "$copy/done/$waiting" ] || left=$((left + 1)); done
     say "${time#00:}  $1 $2; crates left: $left" 2>&3
 }
 
