@@ -4,11 +4,11 @@ use Rattle.tie_search.proofs.asking.Asking.first_of.Given as goal
 
 abbrev pub invariant-loop-parts : goal.invariant-loop-parts
 invariant-loop-parts g l =
-    let value = g.S.Tally.value_of l.best.search in
-    let m = g.S.Tally.candidates l.best.search in
+    let value = g.S.Tally.value_of l.oracle.search in
+    let m = g.S.Tally.candidates l.oracle.search in
     record {
-      way : IsOnTheWay value m l.best.k l.self l.branch;
-      step : IsStep value m l.best.k (l.fn.self.branches.items ++ l.fn.branch ∷ []) l.fn.self.entered [] (l.self.branches.items ++ l.branch ∷ []) l.self.entered;
+      way : IsOnTheWay value m l.oracle.k l.self l.branch;
+      step : IsStep value m l.oracle.k (l.fn.self.branches.items ++ l.fn.branch ∷ []) l.fn.self.entered [] (l.self.branches.items ++ l.branch ∷ []) l.self.entered;
       rises : l.fn.self.asked ≤ l.self.asked;
       asked : l.self.asked + length l.branch.free ≤ l.fn.self.asked + length l.fn.branch.free;
     }
