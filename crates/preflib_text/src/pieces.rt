@@ -139,9 +139,7 @@ impl<A: Allocator + Copy + Drop> Progress<A> {
         if self.held.is_empty() {
             return self.ended.take(pick, bytes);
         }
-        if let Err(fault) = self.hold(bytes) {
-            return Err(fault);
-        }
+        self.hold(bytes)?;
         let taken = self.ended.take(pick, &self.held);
         self.held.clear();
         taken
@@ -160,9 +158,7 @@ impl<A: Allocator + Copy + Drop> Progress<A> {
     {
         let mut rest = bytes;
         while let Some(at) = rest.find_byte(b'\n') {
-            if let Err(fault) = self.end_line(pick, &rest[..at]) {
-                return Err(fault);
-            }
+            self.end_line(pick, &rest[..at])?;
             rest = &rest[at + 1..];
         }
         if rest.is_empty() {
@@ -189,10 +185,7 @@ impl<A: Allocator + Copy + Drop> Progress<A> {
             return Err(fault);
         }
         let read = self.feed_lines(pick, fed, bytes);
-        self.fault = match read {
-            Ok(()) => None,
-            Err(fault) => Some(fault),
-        };
+        self.fault = read.err();
         read
     }
 }
@@ -213,9 +206,7 @@ fn finish_lines<A: Allocator + Copy + Drop>(
     ensures late { IfErr result (λ fault. IsLate (ended_lines fed.now.bytes) fault) }
 {
     let mut ended = progress.ended;
-    if let Err(fault) = ended.end_input(&progress.held, pick, fed) {
-        return Err(fault);
-    }
+    ended.end_input(&progress.held, pick, fed)?;
     finish(ended.builder, &ended.notes)
 }
 

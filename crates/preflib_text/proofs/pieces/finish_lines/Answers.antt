@@ -9,7 +9,7 @@ end_input-requires-clause-fed g c =
     subst (λ l. IsFed c.args.pick.now c.args.fed.now.bytes ended.notes ended.builder ended.number l) (sym c.deref.ensures.value) c.requires.fed
 
 pub returns-clause-ok : goal.returns-clause-ok
-returns-clause-ok g c = if_ok c.finish.result _ _ _ c.finish.ensures (λ profile h. finished-ok c.args.pick.now c.args.fed.now.bytes _ _ c.in_default.ensures.ok.0 c.in_default.ensures.ok.1 profile h.0 h.1)
+returns-clause-ok g c = if_ok c.finish.result _ _ _ c.finish.ensures (λ profile h. finished-ok c.args.pick.now c.args.fed.now.bytes _ _ c.in_ok-end_input.ensures.ok.0 c.in_ok-end_input.ensures.ok.1 profile h.0 h.1)
 
 pub returns-clause-err : goal.returns-clause-err
-returns-clause-err g c = if_err c.finish.result _ _ _ c.finish.ensures (λ fault h. inl (finished-fault c.args.pick.now c.args.fed.now.bytes _ _ c.in_default.ensures.ok.0 c.in_default.ensures.ok.1 fault h.0 h.1))
+returns-clause-err g c = if_err c.finish.result _ _ _ c.finish.ensures (λ fault h. inl (finished-fault c.args.pick.now c.args.fed.now.bytes _ _ c.in_ok-end_input.ensures.ok.0 c.in_ok-end_input.ensures.ok.1 fault h.0 h.1))

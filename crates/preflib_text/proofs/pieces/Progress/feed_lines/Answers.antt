@@ -2,7 +2,7 @@ use Rattle.preflib_text.proofs.ReadLemmas.{ready}
 use Rattle.std.proofs.lemmas.Result.{on_ok_weaker, IfErr-weaker}
 use Rattle.preflib_text.specs.Pieces.{is_too_long}
 use Rattle.preflib_text.specs.Steps.Pieces.{unmarked}
-use Rattle.std.proofs.Common.{◌++◌, ◌≡◌, ℕ, ◌≤◌, ◌==◌, false, List, [], ◌∷◌, sym, ◌∙◌, length, refl, arith}
+use Rattle.std.proofs.Common.{◌++◌, ◌≡◌, ℕ, ◌≤◌, ◌==◌, false, List, [], ◌∷◌, sym, ◌∙◌, length, refl, arith, rules}
 use Rattle.std.proofs.lemmas.Grind.{common_steps}
 use Rattle.std.proofs.lemmas.List.{length-append}
 use Rattle.preflib_text.proofs.PieceLemmas.{loop_count, loop_refused, loop_next, loop_kept, loop_long, room_left, held_short}
@@ -23,9 +23,10 @@ end_line-requires-clause-number g c =
 pub end_line-requires-clause-held : goal.end_line-requires-clause-held
 end_line-requires-clause-held g c = room_left c.loop-at.self.ended.number c.loop-at.self.held.items (held_short _ _ _ _ _ _ c.loop-at.invariant.0.2)
 
-pub returns-in-Err-clause-err : goal.returns-in-Err-clause-err
-returns-in-Err-clause-err g c =
-    loop_refused _ _ _ _ _ _ _ _ c.loop-at.invariant.0.1 c.loop-at.invariant.0.2 c.in-Some.at c.in-Some.ensures.0.high c.in-Some.ensures.1 c.in-Some.ensures.0.before c.in-Err.fault c.in-Err.ensures.err
+pub returns-in_err-end_line-clause-err : goal.returns-in_err-end_line-clause-err
+returns-in_err-end_line-clause-err g c =
+    let refused = loop_refused _ _ _ _ _ _ _ _ c.loop-at.invariant.0.1 c.loop-at.invariant.0.2 c.in-Some.at c.in-Some.ensures.0.high c.in-Some.ensures.1 c.in-Some.ensures.0.before c.in_err-end_line.field-0.0 c.in_err-end_line.ensures.err in
+    search rules
 
 pub overflow_add-rest : goal.overflow_add-rest
 overflow_add-rest g c =
@@ -35,8 +36,8 @@ overflow_add-rest g c =
 
 pub loop-at-preserved : goal.loop-at-preserved
 loop-at-preserved g c = (
-  loop_next _ _ _ _ _ _ _ _ c.loop-at.invariant.0.1 c.loop-at.invariant.0.2 c.in-Some.at c.in-Some.ensures.0.high c.in-Some.ensures.1 c.in-Some.ensures.0.before _ _ _ _ c.in_default-end_line.ensures.ok c.in_default-end_line.ensures.number c.in_default-end_line.ensures.held,
-  omega (arith, c.loop-at.invariant.1, c.in_default-end_line.ensures.number),
+  loop_next _ _ _ _ _ _ _ _ c.loop-at.invariant.0.1 c.loop-at.invariant.0.2 c.in-Some.at c.in-Some.ensures.0.high c.in-Some.ensures.1 c.in-Some.ensures.0.before _ _ _ _ c.in_ok-end_line.ensures.ok c.in_ok-end_line.ensures.number c.in_ok-end_line.ensures.held,
+  omega (arith, c.loop-at.invariant.1, c.in_ok-end_line.ensures.number),
 )
 
 some_bytes : (bytes : List ℕ) → (length bytes == 0) ≡ false → 1 ≤ length bytes
