@@ -72,13 +72,13 @@ below-turned_ahead : (m : ℕ) (rows : List Row) (x y : List ℕ) → IsIncreasi
 below-turned_ahead m rows x y up up' below c = omega (arith, below c, count-others (are_clones rows c) m x up, count-others (are_clones rows c) m y up')
 
 module _ (m : ℕ) (rows : List Row) (committee set other : List ℕ) (up : IsIncreasing 1 m committee) (up' : IsIncreasing 1 m set) (up'' : IsIncreasing 1 m other) where
-  spanned-from : (step : Step) → IsAhead step m rows set committee → IsAhead step m rows committee other → is_spanned step m rows committee set other ≡ true
+  pub spanned-from : (step : Step) → IsAhead step m rows set committee → IsAhead step m rows committee other → is_spanned step m rows committee set other ≡ true
   spanned-from Grow ahead until = and_from (has_as_many m rows committee set) (has_as_many m rows other committee) (many-from m rows set committee ahead) (many-from m rows committee other until)
   spanned-from Shrink ahead until =
       and_from (has_as_many m rows committee other) (has_as_many m rows set committee)
       (many-from m rows other committee (ahead-turned_below m rows committee other up up'' until)) (many-from m rows committee set (ahead-turned_below m rows set committee up' up ahead))
 
-  spanned-at : (step : Step) → is_spanned step m rows committee set other ≡ true → IsAhead step m rows set committee × IsAhead step m rows committee other
+  pub spanned-at : (step : Step) → is_spanned step m rows committee set other ≡ true → IsAhead step m rows set committee × IsAhead step m rows committee other
   spanned-at Grow is =
       let parts = and_parts (has_as_many m rows committee set) (has_as_many m rows other committee) is in
       (below-from m rows set committee up' parts.0, below-from m rows committee other up parts.1)

@@ -39,6 +39,15 @@ ahead-turned step m rows x y most ahead = within-turned (are_clones rows) (clone
 pub chosen-ahead : (step : Step) (m : ℕ) (rows : List Row) (x y : List ℕ) → IsAhead step m rows x y → chosen step m x ≤ chosen step m y
 chosen-ahead step m rows x y ahead = length-within (are_clones rows) (clones-sameness rows) (picked step m x) (picked step m y) ahead
 
+-- choices lead further on
+module _ (step : Step) (weights : List ℕ) (m : ℕ) (rows : List Row) where
+  pub leads-ahead : (n : ℕ) (made now : List ℕ) → IsIncreasing 1 m now → LeadsTo step weights m rows made n now → IsAhead step m rows now made
+  leads-ahead zero made now up leads = leads.0
+  leads-ahead (suc n) made now up leads =
+      let c : ℕ = leads.0 in
+      let free = choice-open step weights m rows now c leads.1 in λ x.
+      omega (arith, leads-ahead n made (change step now c) (change-increasing step m now c up free) leads.2 x, count-change step (are_clones rows x) m now c up free)
+
 -- ---- the choices that lead to a set
 
 module _ (step : Step) (weights : List ℕ) (m : ℕ) (rows : List Row) (ballots : AreBallots m rows) (falls : IsFalling weights) where

@@ -36,7 +36,7 @@ use Rattle.sequential_winners.proofs.TiedClones.{change-ahead, choice-open}
 one-contains : {X : Type 0} (x y : X) → x ≡ y → Contains (x ∷ []) y
 one-contains x y same = (0, omega arith, same)
 
-first-is : (step : Step) (m : ℕ) → IsIncreasing 1 m (start step m)
+pub first-is : (step : Step) (m : ℕ) → IsIncreasing 1 m (start step m)
 first-is Grow m = tt
 first-is Shrink m = IsIncreasing-range 1 m m (omega arith)
 
@@ -53,7 +53,7 @@ of-member (y ∷ xs) x inside = elim (cases_eq y x) [
 ]
 
 -- who is followed ties
-begins-tied : (step : Step) (weights : List ℕ) (m : ℕ) (rows : List Row) (left : ℕ) (set : List ℕ) (c : ℕ) → has_member (beginners step weights m rows left set) c ≡ true → has_member (ties step weights m rows set) c ≡ true
+pub begins-tied : (step : Step) (weights : List ℕ) (m : ℕ) (rows : List Row) (left : ℕ) (set : List ℕ) (c : ℕ) → has_member (beginners step weights m rows left set) c ≡ true → has_member (ties step weights m rows set) c ≡ true
 begins-tied step weights m rows left set c = by (nat_lt (given step weights rows set (other_members (ties step weights m rows set) (filter (is_near step weights rows set (slice_index_or (ties step weights m rows set) 0 0)) (ties step weights m rows set)))) (left * tied_worth step weights m rows set))
   where
     by : (b : Bool) → has_member (cond b (filter (is_near step weights rows set (slice_index_or (ties step weights m rows set) 0 0)) (ties step weights m rows set)) (ties step weights m rows set)) c ≡ true → has_member (ties step weights m rows set) c ≡ true
@@ -71,7 +71,7 @@ module _ (step : Step) (weights : List ℕ) (m : ℕ) (rows : List Row) (total :
     ends : (last : List ℕ) → end step weights m rows set ≡ Some last → chosen step m last ≤ total → last ≡ made → IsMade set made
     changed : (c : ℕ) → end step weights m rows set ≡ None → is_choice step weights m rows set c ≡ true → change step set c ≡ made → IsMade set made
 
-  made-from : (set made : List ℕ) → Contains (followers step weights m rows total set) made → IsMade set made
+  pub made-from : (set made : List ℕ) → Contains (followers step weights m rows total set) made → IsMade set made
   unfolding followers
   made-from set made inside = by (end step weights m rows set) refl inside
     where
@@ -90,16 +90,31 @@ module _ (step : Step) (weights : List ℕ) (m : ℕ) (rows : List Row) (total :
   unfolding followers
   stays-contains set last is more = grind (arith, common_steps, Contains, is, one-contains, lt-leb)
 
-  ends-contains : (set last : List ℕ) → end step weights m rows set ≡ Some last → chosen step m last ≤ total → Contains (followers step weights m rows total set) last
+  pub ends-contains : (set last : List ℕ) → end step weights m rows set ≡ Some last → chosen step m last ≤ total → Contains (followers step weights m rows total set) last
   unfolding followers
   ends-contains set last is over = grind (arith, common_steps, Contains, is, one-contains, le-leb)
 
-  changed-contains : (set : List ℕ) (c : ℕ) → end step weights m rows set ≡ None → has_member (beginners step weights m rows (total - chosen step m set) set) c ≡ true
+  pub changed-contains : (set : List ℕ) (c : ℕ) → end step weights m rows set ≡ None → has_member (beginners step weights m rows (total - chosen step m set) set) c ≡ true
       → Contains (followers step weights m rows total set) (change step set c)
   unfolding followers
   changed-contains set c none begins =
       let all = beginners step weights m rows (total - chosen step m set) set in
       subst (λ o. Contains (followed step m total set all o) (change step set c)) (sym none) (Contains-map (change step set) all c (of-member all c begins))
+
+  -- only the end follows, or what those make who begin
+  pub last-only : (set last next : List ℕ) → end step weights m rows set ≡ Some last → chosen step m last ≤ total → Contains (followers step weights m rows total set) next → last ≡ next
+  unfolding followers
+  last-only set last next is over inside =
+      sym (ap (λ b. cond b last set) (le-leb (chosen step m last) total over))
+      ∙ Contains-only (cond (nat_le (chosen step m last) total) last set) next (subst (λ o. Contains (followed step m total set (beginners step weights m rows (total - chosen step m set) set) o) next) is inside)
+
+  pub changed-from : (set next : List ℕ) → end step weights m rows set ≡ None → Contains (followers step weights m rows total set) next
+      → (c : ℕ) × (has_member (beginners step weights m rows (total - chosen step m set) set) c ≡ true) × (change step set c ≡ next)
+  unfolding followers
+  changed-from set next none inside =
+      let begin = beginners step weights m rows (total - chosen step m set) set in
+      let some = Contains-from_map (change step set) begin next (subst (λ o. Contains (followed step m total set begin o) next) none inside) in
+      (some.0, member-of begin some.0 some.1, some.2)
 
   -- the choices still to be made lead from the set to one like `made`
   abbrev pub Completes : List ℕ → List ℕ → Type 0
@@ -123,7 +138,7 @@ module _ (step : Step) (weights : List ℕ) (m : ℕ) (rows : List Row) (total :
         )
 
     -- what the choices lead to from what follows, they lead to from the set
-    made-sound : (made next : List ℕ) → IsMade set next → Completes made next → Completes made set
+    pub made-sound : (made next : List ℕ) → IsMade set next → Completes made next → Completes made set
     made-sound made next (stays last e beyond same) leads = subst (Completes made) (sym same) leads
     made-sound made next (ends last e within same) leads =
         let span = (end-span step weights m rows ballots falls set last up e).0 in
@@ -140,7 +155,7 @@ module _ (step : Step) (weights : List ℕ) (m : ℕ) (rows : List Row) (total :
         subst (λ i. LeadsTo step weights m rows made i set) n (c, choice, subst (Completes made) (sym is) leads)
 
     -- what the choices lead to from the set, they lead to from something that follows
-    made-complete : (made : List ℕ) → Completes made set → (next : List ℕ) × Contains (followers step weights m rows total set) next × Completes made next
+    pub made-complete : (made : List ℕ) → Completes made set → (next : List ℕ) × Contains (followers step weights m rows total set) next × Completes made next
     made-complete made leads = by (end step weights m rows set) refl
       where
         by : (o : Option (List ℕ)) → end step weights m rows set ≡ o → (next : List ℕ) × Contains (followers step weights m rows total set) next × Completes made next

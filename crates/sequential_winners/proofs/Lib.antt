@@ -10,6 +10,7 @@ pub mod Numbers
 pub mod PairLemmas
 pub mod Picked
 pub mod PlainLemmas
+pub mod QuestionLemmas
 pub mod RowLemmas
 pub mod SpanLemmas
 pub mod StepLemmas

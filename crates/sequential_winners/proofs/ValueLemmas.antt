@@ -16,7 +16,7 @@ use Rattle.tie_walk.proofs.HitWeights.{one-most}
 use Rattle.tie_walk.proofs.LevelLemmas.{reached-increasing}
 use Rattle.sequential_winners.specs.Clones.{is_between}
 use Rattle.sequential_winners.specs.Families.{Sequential, sequential_of, is_winner, some_winner}
-use Rattle.sequential_winners.specs.Steps.Families.{KeepsFamilies, may_be_in}
+use Rattle.sequential_winners.specs.Steps.Families.{may_be_in}
 use Rattle.sequential_winners.specs.Steps.Levels.{AreFamilies}
 use Rattle.sequential_winners.proofs.CompletionLemmas.{joined-increasing, may-is}
 use Rattle.sequential_winners.proofs.Leads.{reached-chosen}
@@ -63,26 +63,22 @@ module _ (e : Election) (rule : SeqRule) (k : ℕ) (fits : k ≤ e.m) where
         let f = any-at (has (set ++ a.0)) pairs (sym (wins-by a.0 a.1) ∙ a.2) in
         any-from (may_be_in e.m e.rows c set left) pairs f.0 f.1 (may-is e.m e.rows c set left f.0 within up (inside f.0 f.1) ∙ any-from (λ added. has (set ++ added) f.0) lists a.0 a.1 f.2))
 
--- the same, of what the families keep, where contracts see the election, the rule and k as one
-module _ {e : Election} {rule : SeqRule} {k : ℕ} {clones leasts mosts : List (List ℕ)} (keeps : KeepsFamilies e rule k clones leasts mosts) (s : Sequential) (is : sequential_of e rule k ≡ s) where
-  pub never-completes : (c : ℕ) (set : List ℕ) (left : ℕ) → (length set + left ≡ k → ⊥) → some_winner s c set left ≡ false
-  never-completes c set left other = subst (λ (t : Sequential). some_winner t c set left ≡ false) is (some-other e rule k keeps.fits c set left other)
+-- the same, where contracts see the election, the rule and k as one
+pub never-completes : (s : Sequential) → s.k ≤ s.election.m → (c : ℕ) (set : List ℕ) (left : ℕ) → (length set + left ≡ s.k → ⊥) → some_winner s c set left ≡ false
+never-completes s fits c set left other = some-other s.election s.rule s.k fits c set left other
 
-  pub completes-is : (c : ℕ) (set : List ℕ) (left : ℕ) (least_list most_list : List (List ℕ)) → least_list ≡ leasts → most_list ≡ mosts → c ≤ s.election.m → IsIncreasing 1 c set → k ≡ length set + left
-      → list_any (may_be_in s.election.m s.election.rows c set (s.k - length set)) (zip least_list most_list) ≡ some_winner s c set left
-  completes-is c set left least_list most_list first second within up whole =
-      let left-is : k - length set ≡ left = omega (arith, whole) in
+module _ (s : Sequential) (fits : s.k ≤ s.election.m) (leasts mosts : List (List ℕ)) (families : AreFamilies s.rule s.election s.k leasts mosts) where
+  pub completes-is : (c : ℕ) (set : List ℕ) (least_list most_list : List (List ℕ)) → least_list ≡ leasts → most_list ≡ mosts → c ≤ s.election.m → IsIncreasing 1 c set → length set ≤ s.k
+      → list_any (may_be_in s.election.m s.election.rows c set (s.k - length set)) (zip least_list most_list) ≡ some_winner s c set (s.k - length set)
+  completes-is c set least_list most_list first second within up small =
       ap (list_any (may_be_in s.election.m s.election.rows c set (s.k - length set))) (ap (λ l. zip l most_list) first ∙ ap (zip leasts) second)
-      ∙ ap (λ (t : Sequential). list_any (may_be_in t.election.m t.election.rows c set (t.k - length set)) (zip leasts mosts)) (sym is)
-      ∙ ap (λ n. list_any (may_be_in e.m e.rows c set n) (zip leasts mosts)) left-is
-      ∙ some-is e rule k keeps.fits leasts mosts keeps.families c set left (omega (arith, within, ap (λ (t : Sequential). t.election.m) is)) up (sym whole)
-      ∙ ap {B = Bool} (λ (t : Sequential). some_winner t c set left) is
+      ∙ some-is s.election s.rule s.k fits leasts mosts families c set (s.k - length set) within up (omega (arith, small))
 
   -- a least set is a set of candidates
   pub least-of : (list : List (List ℕ)) (i : ℕ) (set : List ℕ) → list ≡ leasts → i < length list → ((d : List ℕ) → set ≡ get_or list i d) → IsIncreasing 1 s.election.m set
   least-of list i set same inside at =
-      subst (λ (t : Sequential). IsIncreasing 1 t.election.m set) is
-      (subst (IsIncreasing 1 e.m) (sym (at [])) (All-from_recursion (λ x. IsIncreasing 1 e.m x) list (subst (AllByRecursion (λ x. IsIncreasing 1 e.m x)) (sym same) keeps.families.least_sets) i [] inside))
+      subst (IsIncreasing 1 s.election.m) (sym (at []))
+      (All-from_recursion (λ x. IsIncreasing 1 s.election.m x) list (subst (AllByRecursion (λ x. IsIncreasing 1 s.election.m x)) (sym same) families.least_sets) i [] inside)
 
 -- a committee completes itself
 pub value-is : (s : Sequential) (set : List ℕ) → some_winner s s.election.m set 0 ≡ is_winner s set

@@ -1,3 +1,4 @@
 pub mod Families
 pub mod Levels
+pub mod Questions
 pub mod Tables

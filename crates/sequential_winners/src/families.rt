@@ -5,48 +5,70 @@
 //! most set has room have to fill the committee (`proofs/CompletionLemmas.antt`). This is exact (`laws::exact_bounds`):
 //! `Winners` over the families enters only prefixes with a winner below. It lists the union of the families in order,
 //! each committee once.
+//!
+//! If there are too many families to be stored, the bound asks a search the same question (module `question`).
 ghost use Rattle.std.specs.Prelude.{◌≡◌, ◌≤◌, ◌-◌, ⊤, IfOk, MatchOption, length, if◌then◌else◌};
 ghost use Rattle.ballot_base.specs.Lists.{IsIncreasing};
 ghost use Rattle.tie_walk.specs.Sequences.{sequential_winners};
 ghost use Rattle.sequential_winners.specs.Clones.{clone_count, has_as_many};
 ghost use Rattle.sequential_winners.specs.Families.{sequential_of, is_winner, some_winner};
 ghost use Rattle.sequential_winners.specs.Steps.Families.{may_be_in};
+ghost use Rattle.sequential_winners.specs.Steps.Levels.{AreFamilies};
 ghost use Rattle.sequential_winners.specs.Steps.Tables.{completed};
 
 use crate::levels::Levels;
+use crate::question::{MOST_DEAD, Question};
 use ballot_base::{CandSet, Clones, Profile};
 use std::alloc::{AllocError, Allocator, Global};
+use std::cell::Cell;
+use std::collections::HashSet;
 use std::marker::Model;
-use tie_walk::sequential::{Choices, Step};
+use tie_walk::sequential::{Choices, FoundSets, Step};
 use tie_walk::{SeqRule, Tally};
 
 /// The committees of size `k` that some sequence of choices of a sequential rule makes, as families. A family is a pair
 /// of sets. It has the committees of size `k` with at least as many members of each class of clones as its first set,
-/// and at most as many as its second. A committee has the value 1 if some family has it, and otherwise 0. Contracts see
-/// the election, the rule and `k`.
+/// and at most as many as its second. A committee has the value 1 if some family has it, and otherwise 0. Families that
+/// would take too much memory are not stored: each question about them is answered by a search. Contracts see the
+/// election, the rule and `k`.
 #[derive(Drop)]
 pub struct Families<'a, A: Allocator + Copy = Global> {
     profile: &'a Profile<A>,
     rule: SeqRule,
     pub(crate) k: u8,
     clones: Clones,
+    /// `None` if they would take too much memory. Then a search answers each question.
+    stored: Option<Stored<A>>,
+    /// The sets that led to nothing in the last search, `None` if families are stored.
+    dead: Cell<Option<FoundSets<A>>>,
+    /// Where the last search that found something has ended.
+    last: Cell<CandSet>,
+}
+
+/// The least set and the most set of each family.
+#[derive(Drop)]
+struct Stored<A: Allocator + Copy> {
     leasts: Vec<CandSet, A>,
     mosts: Vec<CandSet, A>,
 }
 
 impl<'a, A: Allocator + Copy> Model for Families<'a, A> {
+    ghost use Rattle.std.specs.Prelude.{⊤, MatchOption};
     ghost use Rattle.sequential_winners.specs.Families.{Sequential, sequential_of};
-    ghost use Rattle.sequential_winners.specs.Steps.Families.{KeepsFamilies};
+    ghost use Rattle.sequential_winners.specs.Steps.Families.{KeepsElection};
+    ghost use Rattle.sequential_winners.specs.Steps.Levels.{AreFamilies};
 
     ghost Value = { Sequential };
 
     ghost view = { λ f. sequential_of f.profile.now f.rule f.k };
 
-    ghost invariant = { λ f. KeepsFamilies f.profile.now f.rule f.k f.clones f.leasts.items f.mosts.items };
+    ghost invariant = { λ f. KeepsElection f.profile.now f.rule f.k f.clones
+        × MatchOption f.stored ⊤ (λ s. AreFamilies f.rule f.profile.now f.k s.leasts.items s.mosts.items) };
 }
 
 impl<'a, A: Allocator + Copy + Drop> Families<'a, A> {
-    /// The families of the winning committees of size `k`. A failed allocation leaves nothing.
+    /// The families of the winning committees of size `k`. They take less than 512 MB, and 5 MB if they are not stored.
+    /// A failed allocation leaves nothing.
     pub fn new(
         alloc: A,
         profile: &'a Profile<A>,
@@ -62,7 +84,9 @@ impl<'a, A: Allocator + Copy + Drop> Families<'a, A> {
             choices: Choices::new(profile, rule),
             clones: &clones,
         };
-        let sets = levels.reached_families(alloc, rule.choices(profile.m(), k))?;
+        let Some(sets) = levels.reached_families(alloc, rule.choices(profile.m(), k))? else {
+            return Families::searched(alloc, profile, rule, k);
+        };
         let mut ends = Vec::with_capacity(alloc, sets.len())?;
         for set in &sets {
             let end = if set.len() == k {
@@ -81,8 +105,34 @@ impl<'a, A: Allocator + Copy + Drop> Families<'a, A> {
             rule,
             k,
             clones,
-            leasts,
-            mosts,
+            stored: Some(Stored { leasts, mosts }),
+            dead: Cell::new(None),
+            last: Cell::new(CandSet::empty()),
+        })
+    }
+
+    /// Like `new`, but stores no families, whether or not there are few.
+    pub fn searched(
+        alloc: A,
+        profile: &'a Profile<A>,
+        rule: SeqRule,
+        k: u8,
+    ) -> Result<Families<'a, A>, AllocError>
+        requires some { 1 ≤ k }
+        requires fits { k ≤ profile.now.m }
+        ensures { IfOk result (λ families. families ≡ sequential_of profile.now rule k) }
+    {
+        let clones = Clones::of(profile);
+        let dead = HashSet::with_capacity(alloc, MOST_DEAD)?;
+        profile.m();
+        Ok(Families {
+            profile,
+            rule,
+            k,
+            clones,
+            stored: None,
+            dead: Cell::new(Some(dead)),
+            last: Cell::new(CandSet::empty()),
         })
     }
 }
@@ -95,11 +145,15 @@ impl<'a, A: Allocator + Copy> Families<'a, A> {
             sets.now ≡ sequential_winners self.now.rule self.now.election self.now.k) }
     {
         let (clones, k) = (&self.clones, self.k);
+        let Some(stored) = &self.stored else {
+            return None;
+        };
+        let leasts = &stored.leasts;
         let are_apart = (1..self.m() + 1).all(|c| clones.class(c).len() == 1);
-        if !are_apart || !self.leasts.iter().all(|set| set.len() == k) {
+        if !are_apart || !leasts.iter().all(|set| set.len() == k) {
             return None;
         }
-        Some(&self.leasts)
+        Some(leasts)
     }
 
     /// Whether some family has a committee that consists of `set` and of `left` candidates after `c`.
@@ -112,7 +166,23 @@ impl<'a, A: Allocator + Copy> Families<'a, A> {
         if self.k != set.len() + left {
             return false;
         }
-        for (least, most) in self.leasts.iter().zip(&self.mosts) {
+        match &self.stored {
+            Some(stored) => self.is_in_some(stored, c, set),
+            None => self.is_reached(c, set),
+        }
+    }
+
+    /// Whether one of the stored families has a committee that consists of `set` and of candidates after `c`.
+    fn is_in_some(&self, stored: &Stored<A>, c: u8, set: CandSet) -> bool
+        requires families { AreFamilies self.now.rule self.now.election self.now.k stored.now.leasts.items
+            stored.now.mosts.items }
+        requires fits { self.now.k ≤ self.now.election.m }
+        requires within { c ≤ self.now.election.m }
+        requires set { IsIncreasing 1 c set }
+        requires size { length set ≤ self.now.k }
+        ensures { result ≡ some_winner self.now c set (self.now.k - length set) }
+    {
+        for (least, most) in stored.leasts.iter().zip(&stored.mosts) {
             if self.may_be_in((*least, *most), c, set) {
                 return true;
             }
@@ -120,10 +190,40 @@ impl<'a, A: Allocator + Copy> Families<'a, A> {
         false
     }
 
+    /// Whether some sequence of choices makes a committee that consists of `set` and of candidates after `c`.
+    fn is_reached(&self, c: u8, set: CandSet) -> bool
+        requires within { c ≤ self.now.election.m }
+        requires set { IsIncreasing 1 c set }
+        requires size { length set ≤ self.now.k }
+        ensures { result ≡ some_winner self.now c set (self.now.k - length set) }
+    {
+        let mut dead = self.dead.take();
+        if let Some(sets) = &mut dead {
+            sets.clear();
+        }
+        let question = Question {
+            families: self,
+            levels: Levels {
+                choices: Choices::new(self.profile, self.rule),
+                clones: &self.clones,
+            },
+            k: self.k,
+            c,
+            set,
+            last: &self.last,
+        };
+        let start = self.rule.step().start(self.profile.m());
+        let is_reached = question.leads(&mut dead, start);
+        self.dead.set(dead);
+        is_reached
+    }
+
     /// Whether a family has a committee that consists of `set` and of candidates after `c`. Two conditions must hold.
     /// The candidates that `set` needs to have as many of each class as the least set have to fit in. The candidates
     /// for which the most set has room have to fill the committee.
-    fn may_be_in(&self, family: (CandSet, CandSet), c: u8, set: CandSet) -> bool
+    // Not inlined: it would take stack at each set of a search.
+    #[inline(never)]
+    pub(crate) fn may_be_in(&self, family: (CandSet, CandSet), c: u8, set: CandSet) -> bool
         requires least_set { IsIncreasing 1 self.now.election.m family.0 }
         requires most_set { IsIncreasing 1 self.now.election.m family.1 }
         requires within { c ≤ self.now.election.m }

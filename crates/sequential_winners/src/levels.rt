@@ -19,7 +19,7 @@
 //! good, and stands for all sets between the two. `proofs/LevelLemmas.antt` shows, by induction over levels, that the
 //! choices still to be made lead from the sets of a level to exactly the committees that some sequence of choices
 //! makes.
-ghost use Rattle.std.specs.Prelude.{◌≡◌, ◌≤◌, ◌++◌, ◌&&◌, nat_lt, true, None, IfOk, OnOk};
+ghost use Rattle.std.specs.Prelude.{◌≡◌, ◌≤◌, ◌++◌, ◌&&◌, nat_lt, true, None, ⊤, IfOk, MatchOption, OnOk};
 ghost use Rattle.std.specs.List.{AllByRecursion};
 ghost use Rattle.ballot_base.specs.Clones.{AreClones};
 ghost use Rattle.ballot_base.specs.CandSet.{has_member};
@@ -27,11 +27,26 @@ ghost use Rattle.ballot_base.specs.Limits.{most_candidates};
 ghost use Rattle.ballot_base.specs.Lists.{IsIncreasing};
 ghost use Rattle.tie_walk.specs.Steps.Choices.{best_worth, tied_by, HasSetsOf};
 ghost use Rattle.sequential_winners.specs.Steps.Levels.{ties_by, next_hit_by, given_by, near_by, beginners_by, end_by, followers_by, AreFollowing, AreReached};
+ghost use Rattle.sequential_winners.specs.Steps.Questions.{LeadsAhead};
 
 use ballot_base::{CandSet, Clones};
 use std::alloc::{AllocError, Allocator};
 use std::collections::HashSet;
 use tie_walk::sequential::{Choices, FoundSets, Step, in_order};
+
+/// The most sets that a level may have. It and the level before take less than 512 MB then, a usual limit where
+/// programs run.
+const MOST_SETS: usize = 14_000_000;
+
+/// Where the choices from a set lead.
+pub(crate) enum Ahead {
+    /// To this end, which as many choices reach as are made in all, or fewer.
+    Within(CandSet),
+    /// Towards this end, which lies beyond all choices.
+    Beyond(CandSet),
+    /// To what these candidates make, of whom one is chosen.
+    Choices(CandSet),
+}
 
 /// A sequential rule on a profile, followed level by level: level `n` has the sets that `n` choices make, the ends that
 /// wait for their own level, and the sets that stay for good.
@@ -154,6 +169,30 @@ impl<A: Allocator + Copy + Drop> Levels<'_, A> {
         }
     }
 
+    /// Where the choices from a set lead, of `total` in all.
+    // Not inlined: the worths of candidates take more than 1 KB of stack, which would lie at each level of a search.
+    #[inline(never)]
+    pub(crate) fn ahead(&self, set: CandSet, total: u8) -> Ahead
+        requires { IsIncreasing 1 self.now.choices.profile.now.m set }
+        ensures { LeadsAhead self.now.choices.rule self.now.choices.profile.now total set result }
+    {
+        let Choices { profile, rule, .. } = &self.choices;
+        let (best, ties, end) = self.ties_and_end(set);
+        match end {
+            Some(end) => {
+                if rule.choices(profile.m(), end.len()) > total {
+                    return Ahead::Beyond(end);
+                }
+                Ahead::Within(end)
+            }
+            None => {
+                let left = total.saturating_sub(rule.choices(profile.m(), set.len()));
+                let begin = self.beginners(set, best, ties, left);
+                Ahead::Choices(begin)
+            }
+        }
+    }
+
     /// Adds what follows a set: its end; or the set itself, if its end lies beyond all `total` choices; or the sets
     /// that one choice makes.
     fn follow(&self, found: &mut FoundSets<A>, set: CandSet, total: u8) -> Result<(), AllocError>
@@ -179,17 +218,17 @@ impl<A: Allocator + Copy + Drop> Levels<'_, A> {
         Ok(())
     }
 
-    /// The level after level `size`, of those for `total` choices.
+    /// The level after level `size`, of those for `total` choices, or `None` if it has more than `MOST_SETS` sets.
     fn next_level(
         &self,
         alloc: A,
         total: u8,
         size: u8,
         level: &[CandSet],
-    ) -> Result<Vec<CandSet, A>, AllocError>
+    ) -> Result<Option<Vec<CandSet, A>>, AllocError>
         requires { AllByRecursion (λ set. IsIncreasing 1 self.now.choices.profile.now.m set) level.now }
-        ensures { IfOk result (λ next. AreFollowing
-            self.now.choices.rule self.now.choices.profile.now total size level.now next.items) }
+        ensures { IfOk result (λ next. MatchOption next ⊤ (λ sets. AreFollowing
+            self.now.choices.rule self.now.choices.profile.now total size level.now sets.items)) }
     {
         let Choices { profile, rule, .. } = &self.choices;
         let mut found = HashSet::new(alloc);
@@ -199,25 +238,32 @@ impl<A: Allocator + Copy + Drop> Levels<'_, A> {
             } else {
                 found.insert(*set)?;
             }
+            if found.len() > MOST_SETS {
+                return Ok(None);
+            }
         }
-        in_order(alloc, &found)
+        let sets = in_order(alloc, &found)?;
+        Ok(Some(sets))
     }
 
-    /// The families that `total` choices make.
+    /// The families that `total` choices make, or `None` if a level on the way has more than `MOST_SETS` sets.
     pub(crate) fn reached_families(
         &self,
         alloc: A,
         total: u8,
-    ) -> Result<Vec<CandSet, A>, AllocError>
+    ) -> Result<Option<Vec<CandSet, A>>, AllocError>
         requires { total ≤ self.now.choices.profile.now.m }
-        ensures { IfOk result (λ sets.
-            AreReached self.now.choices.rule self.now.choices.profile.now total total sets.items) }
+        ensures { IfOk result (λ families. MatchOption families ⊤ (λ sets.
+            AreReached self.now.choices.rule self.now.choices.profile.now total total sets.items)) }
     {
         let start = self.choices.rule.step().start(self.choices.profile.m());
         let mut level = vec![in alloc; start]?;
         for done in 0..total {
-            level = self.next_level(alloc, total, done, &level)?;
+            let Some(next) = self.next_level(alloc, total, done, &level)? else {
+                return Ok(None);
+            };
+            level = next;
         }
-        Ok(level)
+        Ok(Some(level))
     }
 }

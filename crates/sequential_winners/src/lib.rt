@@ -2,12 +2,13 @@
 //! each class of clones.
 //!
 //! `levels` makes the families, `families` is a tally over them, and `winners` lists their committees by the walk of
-//! `tie_walk`.
+//! `tie_walk`. Where families would take too much memory, `question` searches for winners instead.
 #![tactic(auto)]
 
 mod families;
 pub mod laws;
 mod levels;
+mod question;
 mod winners;
 
 pub use families::Families;

@@ -5,7 +5,6 @@ use Rattle.ballot_base.specs.Limits.{most_candidates}
 use Rattle.ballot_base.specs.Ballots.{Row, Election}
 use Rattle.tie_walk.specs.Winners.{Winning}
 use Rattle.tie_walk.specs.declared.sequential.SeqRule.{SeqRule}
-use Rattle.sequential_winners.specs.Steps.Levels.{AreFamilies}
 use Rattle.sequential_winners.specs.Clones.{is_between}
 use Rattle.ballot_base.specs.Clones.{AreClones}
 use Rattle.sequential_winners.specs.Steps.Tables.{completed}
@@ -19,13 +18,12 @@ may_be_in m rows c set left family =
     nat_le (length all) (length set + left) && is_between m rows family.0 family.1 all
     && nat_le (length set + left) (length full)
 
--- what the families of the committees of k keep
-pub record KeepsFamilies (e : Election) (rule : SeqRule) (k : ℕ) (clones leasts mosts : List (List ℕ)) : Type 0 where
+-- what the winners of k keep of an election, whether or not their families are stored
+pub record KeepsElection (e : Election) (rule : SeqRule) (k : ℕ) (clones : List (List ℕ)) : Type 0 where
   pub some : 1 ≤ k
   pub most : e.m ≤ most_candidates
   pub fits : k ≤ e.m
   pub clones_are : AreClones e.m e.rows clones
-  pub families : AreFamilies rule e k leasts mosts
 
 -- whether each candidate is its only clone
 abbrev pub are_apart : ℕ → List (List ℕ) → Bool

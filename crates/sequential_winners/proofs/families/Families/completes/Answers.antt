@@ -1,58 +1,22 @@
-use Rattle.std.proofs.Common.{◌∙◌, ◌-◌, refl, ℕ, Bool, List, sym, ap, arith, length, length-append, take}
-use Rattle.std.specs.Iterator.Adapters.{zip_first, zip_second}
-use Rattle.std.specs.List.{list_any, zip}
-use Rattle.std.specs.Slice.Iter.{iter_rest}
-use Rattle.std.proofs.lemmas.Slice.Zip.{zip_turn, zip_end}
-use Rattle.sequential_winners.specs.Families.{Sequential}
-use Rattle.sequential_winners.specs.Steps.Families.{may_be_in}
-use Rattle.sequential_winners.proofs.PairLemmas.{pairs-end, pairs-pass, pairs-more}
-use Rattle.sequential_winners.proofs.ValueLemmas.{never-completes, completes-is, least-of}
+use Rattle.std.proofs.Common.{◌≡◌, ◌-◌, ◌≤◌, ◌∙◌, sym, ap, subst, arith, length}
+use Rattle.sequential_winners.specs.Families.{Sequential, some_winner}
+use Rattle.sequential_winners.proofs.ValueLemmas.{never-completes}
 use Rattle.sequential_winners.proofs.families.Families.completes.Goals as goal
 
 pub returns-then-self-len : goal.returns-then-self-len
-returns-then-self-len g c = sym (never-completes c.self.invariant c.args.self.now c.self.view_is c.args.c c.args.set c.args.left (λ size. c.if-self-len.true (omega (arith, c.len.ensures.count, size))))
-
-pub may_be_in-requires-clause-least_set : goal.may_be_in-requires-clause-least_set
-may_be_in-requires-clause-least_set g c =
-    let z = c.into_iter-least-iterator.result in
-    let leasts = iter_rest (zip_first z) in
-    let mosts = iter_rest (zip_second z) in
-    let turn = zip_turn leasts mosts c.loop-least.yielded z c.loop-least.least-iterator c.next.new.self c.next.result refl refl c.loop-least.yielded_by (c.in-Some.least, c.in-Some.most) c.in-Some.is c.next.ensures.steps in
-    least-of c.self.invariant c.args.self.now c.self.view_is leasts (length c.loop-least.yielded) c.in-Some.least.now (rw (c.into_iter-least-iterator.ensures.into_iter_gives, c.zip-least-items.ensures.first) (c.iter.ensures.rest ∙ c.deref.ensures.value)) turn.0 turn.2
-
-pub returns-then-may_be_in : goal.returns-then-may_be_in
-returns-then-may_be_in g c =
-    let z = c.into_iter-least-iterator.result in
-    let leasts = iter_rest (zip_first z) in
-    let mosts = iter_rest (zip_second z) in
-    let turn = zip_turn leasts mosts c.loop-least.yielded z c.loop-least.least-iterator c.next.new.self c.next.result refl refl c.loop-least.yielded_by (c.in-Some.least, c.in-Some.most) c.in-Some.is c.next.ensures.steps in
+returns-then-self-len g c =
     let s : Sequential = c.args.self.now in
-    let p : List ℕ × List ℕ → Bool = may_be_in s.election.m s.election.rows c.args.c c.args.set (s.k - length c.args.set) in
-    sym (pairs-pass p leasts mosts (length c.loop-least.yielded) c.in-Some.least.now c.in-Some.most.now turn.0 turn.1 turn.2 turn.3 (sym c.may_be_in.ensures ∙ c.if-may_be_in.true))
-    ∙ completes-is c.self.invariant c.args.self.now c.self.view_is c.args.c c.args.set c.args.left leasts mosts (rw (c.into_iter-least-iterator.ensures.into_iter_gives, c.zip-least-items.ensures.first) (c.iter.ensures.rest ∙ c.deref.ensures.value))
-    (rw c.into_iter-least-iterator.ensures.into_iter_gives c.zip-least-items.ensures.second.0) c.requires.within c.requires.set
-    (omega (arith, c.if-self-len.false, c.len.ensures.count))
+    sym (never-completes s (subst (λ (t : Sequential). t.k ≤ t.election.m) c.self.view_is c.self.invariant.0.fits) c.args.c c.args.set c.args.left
+    (λ size. c.if-self-len.true (omega (arith, size, ap (λ (t : Sequential). t.k) c.self.view_is, c.len.ensures.count))))
 
-pub loop-least-preserved : goal.loop-least-preserved
-loop-least-preserved g c =
-    let z = c.into_iter-least-iterator.result in
-    let leasts = iter_rest (zip_first z) in
-    let mosts = iter_rest (zip_second z) in
-    let turn = zip_turn leasts mosts c.loop-least.yielded z c.loop-least.least-iterator c.next.new.self c.next.result refl refl c.loop-least.yielded_by (c.in-Some.least, c.in-Some.most) c.in-Some.is c.next.ensures.steps in
+pub returns-in-Some : goal.returns-in-Some
+returns-in-Some g c =
     let s : Sequential = c.args.self.now in
-    let p : List ℕ × List ℕ → Bool = may_be_in s.election.m s.election.rows c.args.c c.args.set (s.k - length c.args.set) in
-    ap (λ n. list_any p (take n (zip leasts mosts))) (length-append c.loop-least.yielded _)
-    ∙ pairs-more p leasts mosts (length c.loop-least.yielded) c.in-Some.least.now c.in-Some.most.now turn.0 turn.1 turn.2 turn.3 c.loop-least.invariant (sym c.may_be_in.ensures ∙ c.if-may_be_in.false)
+    let left : s.k - length c.args.set ≡ c.args.left = omega (arith, c.if-self-len.false, ap (λ (t : Sequential). t.k) c.self.view_is, c.len.ensures.count) in
+    c.is_in_some.ensures ∙ ap (some_winner s c.args.c c.args.set) left
 
-pub returns : goal.returns
-returns g c =
-    let z = c.into_iter-least-iterator.result in
-    let leasts = iter_rest (zip_first z) in
-    let mosts = iter_rest (zip_second z) in
+pub returns-in-None : goal.returns-in-None
+returns-in-None g c =
     let s : Sequential = c.args.self.now in
-    let p : List ℕ × List ℕ → Bool = may_be_in s.election.m s.election.rows c.args.c c.args.set (s.k - length c.args.set) in
-    let all = zip_end leasts mosts c.loop-least.yielded z c.loop-least.least-iterator c.next.new.self c.next.result refl refl c.loop-least.yielded_by c.in-None.is c.next.ensures.steps in
-    sym (pairs-end p leasts mosts (length c.loop-least.yielded) c.loop-least.invariant all)
-    ∙ completes-is c.self.invariant c.args.self.now c.self.view_is c.args.c c.args.set c.args.left leasts mosts (rw (c.into_iter-least-iterator.ensures.into_iter_gives, c.zip-least-items.ensures.first) (c.iter.ensures.rest ∙ c.deref.ensures.value))
-    (rw c.into_iter-least-iterator.ensures.into_iter_gives c.zip-least-items.ensures.second.0) c.requires.within c.requires.set
-    (omega (arith, c.if-self-len.false, c.len.ensures.count))
+    let left : s.k - length c.args.set ≡ c.args.left = omega (arith, c.if-self-len.false, ap (λ (t : Sequential). t.k) c.self.view_is, c.len.ensures.count) in
+    c.is_reached.ensures ∙ ap (some_winner s c.args.c c.args.set) left

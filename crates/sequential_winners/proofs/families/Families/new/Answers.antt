@@ -46,20 +46,16 @@ invariant_of-result g c =
     let e = c.args.profile.now in
     let rule = c.args.rule in
     let step = c.step.result in
-    let sets = c.in_ok-sets.sets.items in
+    let sets = c.in-Some.sets.items in
     let ends = c.loop-set.ends.items in
     let made = c.new.result in
     let ends-are : ends ≡ map (other_end_by rule e c.args.k) sets =
     c.loop-set.invariant ∙ ap (map (other_end_by rule e c.args.k)) (take_all c.loop-set.set-index c.deref-set-items.result.now c.loop-set-test.false ∙ c.deref-set-items.ensures.value) in
     let all : AreFamilies rule e c.args.k (leasts_of step sets ends) (mosts_of step sets ends) =
-    last-families rule made.rule e made.profile.now c.args.k c.choices.result step sets ends c.new.ensures.rule c.new.ensures.profile c.requires.fits c.m.ensures.valid.ballots c.step.ensures (c.choices.ensures ∙ ap (λ n. choices_of rule n c.args.k) c.m.ensures.value) c.in_ok-sets.ensures ends-are in
-    record {
-      some = c.requires.some;
-      most = c.m.ensures.valid.most;
-      fits = c.requires.fits;
-      clones_are = c.of-clones.ensures;
-      families = elim c.match-step.branch [
+    last-families rule made.rule e made.profile.now c.args.k c.choices.result step sets ends c.new.ensures.rule c.new.ensures.profile c.requires.fits c.m.ensures.valid.ballots c.step.ensures (c.choices.ensures ∙ ap (λ n. choices_of rule n c.args.k) c.m.ensures.value) (rw c.in-Some.is at c.in_ok-sets.ensures) ends-are in (
+      record { some = c.requires.some; most = c.m.ensures.valid.most; fits = c.requires.fits; clones_are = c.of-clones.ensures },
+      elim c.match-step.branch [
         | in-Grow w ↦ rw w.leasts-is (subst (λ s. AreFamilies rule e c.args.k (leasts_of s sets ends) (mosts_of s sets ends)) w.in-Grow.is all)
         | in-Shrink w ↦ rw w.leasts-is (subst (λ s. AreFamilies rule e c.args.k (leasts_of s sets ends) (mosts_of s sets ends)) w.in-Shrink.is all)
-      ];
-    }
+      ],
+    )

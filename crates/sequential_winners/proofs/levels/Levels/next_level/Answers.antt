@@ -4,7 +4,7 @@ use Rattle.std.proofs.lemmas.List.Elements.{All-from_recursion}
 use Rattle.ballot_base.specs.Lists.{IsIncreasing}
 use Rattle.tie_walk.specs.Sequences.{hit_weights}
 use Rattle.tie_walk.specs.Steps.Choices.{step_of, choices_of, HasSetsOf}
-use Rattle.tie_walk.proofs.FoundLemmas.{found-inserted, found-next, found-in_order, if_ok}
+use Rattle.tie_walk.proofs.FoundLemmas.{found-inserted, found-next, found-in_order}
 use Rattle.sequential_winners.specs.Steps.Levels.{chosen, followers, family_changes}
 use Rattle.sequential_winners.proofs.WinnerLemmas.{set-size}
 use Rattle.sequential_winners.proofs.levels.Levels.next_level.Goals as goal
@@ -51,4 +51,4 @@ returns g c =
     let e = c.args.self.now.choices.profile.now in
     let rule = c.args.self.now.choices.rule in
     let make = family_changes (step_of rule) (hit_weights rule e.m) e.m e.rows c.args.total c.args.size in
-    if_ok _ _ c.in_order.result (λ next made. found-in_order make c.args.level.now c.loop-set.set-index c.loop-set.found.keys next.items (omega arith) c.loop-set.invariant made) c.in_order.ensures
+    found-in_order make c.args.level.now c.loop-set.set-index c.loop-set.found.keys c.in_ok-sets.sets.items (omega arith) c.loop-set.invariant c.in_ok-sets.ensures

@@ -1,4 +1,5 @@
-use Rattle.std.proofs.Common.{◌≡◌, ◌<◌, ◌∷◌, [], ◌∙◌, sym, ap, subst, arith}
+use Rattle.std.proofs.Common.{◌≡◌, ◌<◌, MatchOption, ◌∷◌, [], ◌∙◌, sym, ap, subst, arith}
+use Rattle.std.specs.Prelude.{⊤}
 use Rattle.std.specs.List.{AllByRecursion}
 use Rattle.ballot_base.specs.Lists.{IsIncreasing}
 use Rattle.tie_walk.specs.Sequences.{hit_weights}
@@ -27,9 +28,9 @@ loop-done-preserved g c =
     let e = c.args.self.now.choices.profile.now in
     let rule = c.args.self.now.choices.rule in
     let more : c.loop-done.done < c.args.total = omega arith in
-    let made : IsNextFamilies (step_of rule) (hit_weights rule e.m) e.m e.rows c.args.total c.loop-done.done c.loop-done.level.items c.in_ok-level-2.level.items =
-    subst (λ l. IsNextFamilies (step_of rule) (hit_weights rule e.m) e.m e.rows c.args.total c.loop-done.done l c.in_ok-level-2.level.items) c.deref.ensures.value c.in_ok-level-2.ensures in
-    level-next (step_of rule) (hit_weights rule e.m) e.m e.rows c.m.ensures.valid.ballots (hit_weights-fall rule e.m) c.m.ensures.valid.counts (hit_weights-count rule e.m) c.args.total c.loop-done.done more c.requires c.loop-done.level.items c.in_ok-level-2.level.items c.loop-done.invariant made
+    let made : IsNextFamilies (step_of rule) (hit_weights rule e.m) e.m e.rows c.args.total c.loop-done.done c.loop-done.level.items c.in-Some.next.items =
+    subst (λ l. IsNextFamilies (step_of rule) (hit_weights rule e.m) e.m e.rows c.args.total c.loop-done.done l c.in-Some.next.items) c.deref.ensures.value (subst (λ o. MatchOption o ⊤ (λ sets. IsNextFamilies (step_of rule) (hit_weights rule e.m) e.m e.rows c.args.total c.loop-done.done c.deref.result.now sets.items)) c.in-Some.is c.in_ok-next.ensures) in
+    level-next (step_of rule) (hit_weights rule e.m) e.m e.rows c.m.ensures.valid.ballots (hit_weights-fall rule e.m) c.m.ensures.valid.counts (hit_weights-count rule e.m) c.args.total c.loop-done.done more c.requires c.loop-done.level.items c.in-Some.next.items c.loop-done.invariant made
 
 pub returns : goal.returns
 returns g c =

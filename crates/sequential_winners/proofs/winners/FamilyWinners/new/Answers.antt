@@ -22,7 +22,7 @@ returns g c =
     let s : Sequential = c.args.families.now in
     let value : List ℕ → ℕ = λ (w : List ℕ). cond (is_winner s w) 1 0 in
     let f = c.families.inside in
-    let fits : s.k ≤ s.election.m = subst (λ (t : Sequential). t.k ≤ t.election.m) c.families.view_is c.families.invariant.fits in
+    let fits : s.k ≤ s.election.m = subst (λ (t : Sequential). t.k ≤ t.election.m) c.families.view_is c.families.invariant.0.fits in
     c.new.ensures.left
     ∙ ap (λ n. later_than c.args.after (winners value n f.k)) c.m.ensures.value
     ∙ ap (λ n. later_than c.args.after (winners value s.election.m n)) (ap (λ (t : Sequential). t.k) c.families.view_is)

@@ -1,7 +1,7 @@
 use Rattle.std.proofs.Common.{◌≡◌, ◌-◌, false, length, take}
 use Rattle.std.specs.List.{list_any, zip}
 use Rattle.sequential_winners.specs.Steps.Families.{may_be_in}
-use Rattle.sequential_winners.proofs.families.Families.completes.Given as goal
+use Rattle.sequential_winners.proofs.families.Families.is_in_some.Given as goal
 
 -- none of the families so far has one
 abbrev pub invariant-loop-least : goal.invariant-loop-least

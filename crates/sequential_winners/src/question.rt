@@ -1,0 +1,188 @@
+//! Whether some sequence of choices makes a committee of a kind, by a search from set to set.
+//!
+//! Where a level has too many sets to be stored, each question about the winners is answered by a search of its own. It
+//! goes depth first from a set to what follows it in `levels`. A set is given up if nothing that is asked for lies
+//! between it and the set after all choices that can be made: these two are the ends of a family. Sets that lead to
+//! nothing are remembered, as far as there is room, so that they are not gone through twice. What is remembered and the
+//! order of choices only decide how soon a search ends.
+ghost use Rattle.std.specs.Prelude.{◌≡◌, ◌≤◌, ◌-◌, ◌++◌, ℕ, List, [], ◌∷◌, Contains, true, false, ⊤, MatchOption, length};
+ghost use Rattle.ballot_base.specs.CandSet.{has_member};
+ghost use Rattle.ballot_base.specs.Lists.{IsIncreasing};
+ghost use Rattle.ballot_base.specs.Limits.{most_candidates};
+ghost use Rattle.ballot_base.specs.Steps.Lists.{IsIncreasing-prop};
+ghost use Rattle.tie_walk.specs.Steps.Choices.{step_of, choices_of, change};
+ghost use Rattle.sequential_winners.specs.Families.{sequential_of};
+ghost use Rattle.sequential_winners.specs.Steps.Families.{may_be_in};
+ghost use Rattle.sequential_winners.specs.Steps.Levels.{chosen};
+ghost use Rattle.sequential_winners.specs.Steps.Questions.{family_of, finish, IsLive, IsDead, AreDead};
+
+use crate::families::Families;
+use crate::levels::{Ahead, Levels};
+use ballot_base::CandSet;
+use std::alloc::Allocator;
+use std::cell::Cell;
+use tie_walk::sequential::{Choices, FoundSets, Step};
+
+/// The most sets that are remembered. They take 4.7 MB.
+pub(crate) const MOST_DEAD: usize = 1 << 18;
+
+/// A question: does some sequence of choices make a committee of `k` that consists of `set` and of candidates after
+/// `c`?
+#[derive(Drop)]
+pub(crate) struct Question<'q, 'a, A: Allocator + Copy> {
+    pub(crate) families: &'q Families<'a, A>,
+    pub(crate) levels: Levels<'q, A>,
+    pub(crate) k: u8,
+    pub(crate) c: u8,
+    pub(crate) set: CandSet,
+    /// Where the last search that found something has ended. Its choices are tried before others.
+    pub(crate) last: &'q Cell<CandSet>,
+    ghost families_are: { families.now ≡ sequential_of levels.choices.profile.now levels.choices.rule k },
+    ghost fits: { k ≤ levels.choices.profile.now.m },
+    ghost within: { c ≤ levels.choices.profile.now.m },
+    ghost candidates: { IsIncreasing 1 c set } by { IsIncreasing-prop 1 c set },
+    ghost size: { length set ≤ k },
+}
+
+impl<A: Allocator + Copy + Drop> Question<'_, '_, A> {
+    /// Whether the choices still to be made lead from a set to a committee that is asked for. They do not from the sets
+    /// in `dead`.
+    pub(crate) fn leads(&self, dead: &mut Option<FoundSets<A>>, from: CandSet) -> bool
+        requires from { IsIncreasing 1 self.now.levels.choices.profile.now.m from }
+        requires few { chosen (step_of self.now.levels.choices.rule) self.now.levels.choices.profile.now.m from
+            ≤ choices_of self.now.levels.choices.rule self.now.levels.choices.profile.now.m self.now.k }
+        requires dead { MatchOption dead.old ⊤ (λ sets. AreDead self.now.levels.choices.rule
+            self.now.levels.choices.profile.now self.now.k self.now.c self.now.set sets.keys) }
+        ensures dead { MatchOption dead.new ⊤ (λ sets. AreDead self.now.levels.choices.rule
+            self.now.levels.choices.profile.now self.now.k self.now.c self.now.set sets.keys) }
+        ensures live { result ≡ true → IsLive self.now.levels.choices.rule
+            self.now.levels.choices.profile.now self.now.k self.now.c self.now.set from }
+        ensures none { result ≡ false → IsDead self.now.levels.choices.rule
+            self.now.levels.choices.profile.now self.now.k self.now.c self.now.set from }
+    {
+        let Choices { profile, rule, .. } = &self.levels.choices;
+        let total = rule.choices(profile.m(), self.k);
+        let finish = self.finish();
+        if !self.has_between(from, finish) {
+            return false;
+        }
+        if from.len() == self.k {
+            self.last.set(from);
+            return true;
+        }
+        if is_dead(dead, from) {
+            return false;
+        }
+        let leads = match self.levels.ahead(from, total) {
+            Ahead::Within(end) => self.leads(dead, end),
+            Ahead::Beyond(end) => self.has_between(from, end),
+            Ahead::Choices(begin) => {
+                let mut left = begin;
+                while let Some(next) = self.first_choice(left) {
+                    let after = self.after(from, next);
+                    if self.leads(dead, after) {
+                        return true;
+                    }
+                    left = left.without(next);
+                }
+                false
+            }
+        };
+        if !leads {
+            bury(dead, from);
+        }
+        leads
+    }
+
+    /// The set after all choices that can be made.
+    fn finish(&self) -> CandSet
+        ensures { result ≡ finish (step_of self.now.levels.choices.rule) self.now.levels.choices.profile.now.m }
+    {
+        let Choices { profile, rule, .. } = &self.levels.choices;
+        match rule.step() {
+            Step::Grow => CandSet::all(profile.m()),
+            Step::Shrink => CandSet::empty(),
+        }
+    }
+
+    /// The set after the choice of a candidate.
+    fn after(&self, from: CandSet, next: u8) -> CandSet
+        requires low { 1 ≤ next }
+        requires high { next ≤ most_candidates }
+        ensures { result ≡ change (step_of self.now.levels.choices.rule) from next }
+    {
+        match self.levels.choices.rule.step() {
+            Step::Grow => from.with(next),
+            Step::Shrink => from.without(next),
+        }
+    }
+
+    /// Whether a committee that is asked for lies between a set and another that choices make of it.
+    fn has_between(&self, from: CandSet, end: CandSet) -> bool
+        requires from { IsIncreasing 1 self.now.levels.choices.profile.now.m from }
+        requires end { IsIncreasing 1 self.now.levels.choices.profile.now.m end }
+        ensures { result ≡ may_be_in self.now.levels.choices.profile.now.m self.now.levels.choices.profile.now.rows
+            self.now.c self.now.set (self.now.k - length self.now.set)
+            (family_of (step_of self.now.levels.choices.rule) from end) }
+    {
+        let family = match self.levels.choices.rule.step() {
+            Step::Grow => (from, end),
+            Step::Shrink => (end, from),
+        };
+        self.families.may_be_in(family, self.c, self.set)
+    }
+
+    /// The choice that is tried first: one that the question needs, or else one that led to what was found last. Any
+    /// order gives the same answer.
+    fn first_choice(&self, choices: CandSet) -> Option<u8>
+        ensures { MatchOption result (choices ≡ []) (λ next. has_member choices next ≡ true) }
+    {
+        let Choices { profile, rule, .. } = &self.levels.choices;
+        let last = self.last.get();
+        let (needed, before) = match rule.step() {
+            Step::Grow => (choices.common(self.set), choices.common(last)),
+            Step::Shrink => {
+                let allowed = self.set.union(CandSet::after(self.c, profile.m()));
+                (choices.minus(allowed), choices.minus(last))
+            }
+        };
+        let needed_before = needed.common(before);
+        for first in [needed_before, needed, before] {
+            if let Some((next, _)) = first.split_first()
+                && choices.has(next)
+            {
+                return Some(next);
+            }
+        }
+        let (next, _) = choices.split_first()?;
+        Some(next)
+    }
+}
+
+/// Whether a set is among those that are remembered.
+fn is_dead<A: Allocator + Copy>(dead: &Option<FoundSets<A>>, set: CandSet) -> bool
+    ensures { MatchOption dead.now (result ≡ false) (λ sets. result ≡ true → Contains sets.keys set) }
+{
+    match dead {
+        Some(sets) => sets.contains(&set),
+        None => false,
+    }
+}
+
+/// Remembers a set. If there is no room, the others are forgotten.
+fn bury<A: Allocator + Copy>(dead: &mut Option<FoundSets<A>>, set: CandSet)
+    ensures { MatchOption dead.new ⊤ (λ sets. (other : List ℕ) → Contains sets.keys other
+        → MatchOption dead.old ⊥ (λ old. Contains (old.keys ++ set ∷ []) other)) }
+{
+    let Some(sets) = dead else {
+        return;
+    };
+    if sets.len() >= MOST_DEAD {
+        sets.clear();
+    }
+    // There is room, so this takes no memory.
+    match sets.insert(set) {
+        Ok(_) => {}
+        Err(_) => sets.clear(),
+    }
+}
