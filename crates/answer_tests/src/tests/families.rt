@@ -177,6 +177,27 @@ fn ties_after_each_start(rt: HostRuntime) {
     }
 }
 
+/// Asserts that a search finds the same winners of each rule and size, where no families are stored.
+fn assert_searched(rt: &impl Abort, alloc: Global, profile: &Profile) {
+    for rule in &SeqRule::ALL {
+        for k in 1..profile.m() + 1 {
+            let families = Families::searched(alloc, profile, *rule, k).expect(rt, "families");
+            let wanted = SeqWinners::new(alloc, profile, *rule, k, None).expect(rt, "levels");
+            let found = FamilyWinners::new(&families, None);
+            assert!(rt; found.eq(wanted), "{rule:?}: {k}");
+        }
+    }
+}
+
+#[test]
+fn searched_winners(rt: HostRuntime) {
+    let alloc = rt.alloc();
+    for numbers in &TIES {
+        let profile = election_of_digits(&rt, alloc, numbers);
+        assert_searched(&rt, alloc, &profile);
+    }
+}
+
 /// The election of the candidates 1 to m with a voter each.
 fn a_voter_each(rt: &impl Abort, alloc: Global, m: u8) -> Profile
     requires some { 1 ≤ m }
