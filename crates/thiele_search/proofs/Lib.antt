@@ -4,4 +4,5 @@ pub mod CoverLemmas
 mod DominanceLemmas
 mod Examples
 pub mod GainLemmas
+pub mod SymmetryLemmas
 mod WholeLemmas

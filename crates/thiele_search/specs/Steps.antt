@@ -1,3 +1,4 @@
 pub mod Aided
 pub mod Columns
 pub mod Dominance
+pub mod Symmetry

@@ -12,11 +12,15 @@
 //! their ranges are proved: any choice gives the same answers.
 #![tactic(auto)]
 
+mod colours;
 mod columns;
 mod dominance;
 mod good;
 pub mod laws;
+mod matching;
+mod permutations;
 mod search;
+mod symmetry;
 pub mod thiele;
 mod trials;
 

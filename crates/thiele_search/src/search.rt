@@ -204,12 +204,25 @@ impl<'a, A: Allocator + Copy> Narrowing for ThieleSearch<'a, A> {
         dominance.followers[usize::from(tried)].minus(self.aids.clones.class(tried))
     }
 
+    fn matched(&self, node: &Node, tried: u8) -> CandSet {
+        let profile = self.values.profile();
+        self.symmetries
+            .matched(profile, &self.aids.clones, node, tried)
+    }
+
+    // Where the election has symmetry, a list may be of many ties, and each is sooner asked for.
+    fn gives_up(&self) -> bool {
+        let profile = self.values.profile();
+        self.symmetries.end_lists(profile, &self.aids.clones)
+    }
+
     fn whole_value(&self, node: &Node) -> u128 {
         node.value
     }
 
     fn plan(&self, node: &Node, least: u128) -> Option<Plan> {
         self.moves.enter(node.left);
+        self.symmetries.enter(node.left);
         let free = self.eligible(node, least, NODE)?;
         let gains = self.gains_at(node.set, free);
         let due = least.saturating_sub(node.value);

@@ -11,6 +11,7 @@ ghost use Rattle.thiele_search.specs.Steps.Aided.{IsAided, IsMemoryFor};
 use crate::columns::Columns;
 use crate::dominance::Dominance;
 use crate::search::Aids;
+use crate::symmetry::Symmetries;
 use crate::trials::Uses;
 use ballot_base::{CandSet, Clones, Profile, ThieleRule};
 use row_multipliers::multipliers::Multipliers;
@@ -83,6 +84,8 @@ pub struct ThieleSearch<'a, A: Allocator + Copy = Global> {
     pub(crate) counts_pairs: Cell<bool>,
     // Where it pays to move multipliers, over all questions so far.
     pub(crate) moves: Moves,
+    // Permutations of the candidates that keep the election.
+    pub(crate) symmetries: Symmetries,
 }
 
 impl<'a, A: Allocator + Copy> Model for ThieleSearch<'a, A> {
@@ -114,6 +117,7 @@ impl<'a, A: Allocator + Copy + Drop> ThieleSearch<'a, A> {
             good: CandSet::empty(),
             counts_pairs: Cell::new(false),
             moves: Moves::new(profile.rows().div_ceil(rows_per_visit(rule)) as u64),
+            symmetries: Symmetries::none(),
         };
         let good = search.grown(k);
         // No committee is worth more than all candidates together, so prices may have nothing to show.
@@ -217,7 +221,7 @@ impl<'a, A: Allocator + Copy> Searchable for ThieleSearch<'a, A> {
         }
         // All winners took two to three times as long when each was searched for.
         self.counts_pairs.set(true);
-        Some(descent::list_tied(self, all, least))
+        descent::list_tied(self, all, least)
     }
 }
 

@@ -13,6 +13,10 @@ IsListed found = IsAmong found.committees found.len
 abbrev pub IsSettled : (List ℕ → ℕ) → Found → List ℕ → Type 0
 IsSettled value found committee = (value committee < found.least) ⊎ IsListed found committee
 
+-- no listed committee has the value that is still looked for
+abbrev pub IsAbove : Found → Type 0
+IsAbove found = 1 ≤ found.len → found.value < found.least
+
 -- the committee becomes, by exchanges of clones, one that is settled and has the same value
 pub record IsSettledLike (value : List ℕ → ℕ) (m : ℕ) (class : ℕ → List ℕ) (found : Found) (committee : List ℕ) : Type 0
   where
