@@ -1,5 +1,5 @@
 -- The bound of a node by gains, under a Thiele rule.
-use Rattle.std.proofs.Common.{◌≡◌, ℕ, ◌+◌, ◌-◌, ◌^◌, ◌≤◌, ◌==◌, ◌||◌, ◌∙◌, Bool, true, false, List, Option, [], ◌∷◌, ◌++◌, refl, sym, ap, arith, get_or, sum_by}
+use Rattle.std.proofs.Common.{◌≡◌, ℕ, ◌+◌, ◌-◌, ◌≤◌, ◌==◌, ◌||◌, ◌∙◌, Bool, true, false, List, Option, [], ◌∷◌, ◌++◌, refl, sym, ap, arith, get_or, sum_by}
 use Rattle.std.proofs.lemmas.List.{append-nil}
 use Rattle.std.proofs.Math.Bool.{or-false, or_comm}
 use Rattle.std.proofs.lemmas.List.Folds.{list_any-append}
