@@ -42,10 +42,9 @@ impl<'a, A: Allocator + Copy> Model for MinimaxSearch<'a, A> {
 /// at one of the first. With 1, 20 random candidates and 10 seats took 37 % more instructions. Any number works.
 const ROUND: u64 = 2;
 
-/// The number of sets of a short search. If a search lasts longer, a walk often finds sooner what is looked for. With
-/// 1,000, two of five elections in a square, with 64 candidates and 20 seats, took 3 and 13 times as long. Any number
-/// works.
-const SHORT_SEARCH: u64 = 10_000;
+/// The number of sets of a short search. If a search lasts longer, a walk often finds sooner what is looked for. Any
+/// number works.
+const SHORT_SEARCH: u64 = 1000;
 
 impl<'a, A: Allocator + Copy + Drop> MinimaxSearch<'a, A> {
     /// Prepares a search among the committees of a profile's candidates. It takes 24 bytes for each different ballot,

@@ -5,7 +5,8 @@
 //! constraints, 1968). Any weights work. A ballot weighs by the share that it needs of its free candidates. If
 //! that pays, weights are moved instead (`row_multipliers::multipliers`). With weights by the share, 64 candidates and
 //! 20 seats did not end within 12 s if voters and candidates lie on a line. With moved ones they take 0.01 s.
-ghost use Rattle.std.specs.Prelude.{ℕ, ◌^◌, ◌≤◌, slice_index, ◌-◌};
+ghost use Rattle.std.specs.Prelude.{ℕ, ◌^◌, ◌<◌, ◌≤◌, length, slice_index, ◌-◌};
+ghost use Rattle.ballot_base.specs.Ballots.{IsElection};
 ghost use Rattle.ballot_base.specs.Limits.{most_candidates};
 ghost use Rattle.row_multipliers.specs.Completions.{IsNode};
 ghost use Rattle.minimax_search.specs.Steps.Search.{NarrowsNear, share_parts};
@@ -20,7 +21,15 @@ use row_multipliers::{Moves, Node};
 use std::alloc::Allocator;
 
 /// Each moved weight begins with this number: enough that rounding matters little.
-pub(crate) const FIRST_WEIGHT: u64 = 1 << 20;
+pub(crate) const FIRST_WEIGHT: u64 = 1 << 26;
+
+/// Weights are raised if those of the ballots that need hits are together less than this. Moving makes them smaller,
+/// and the shortest step would then leave only zeros. Without it, 64 popular candidates and 20 seats took over 8 s, and
+/// 0.2 s with it. Any number works.
+const LEAST_TOGETHER: u64 = 1 << 28;
+
+/// About what raised weights are together.
+const RAISED: u64 = 1 << 34;
 
 /// How long weights are moved at a node. With 10 and with 20 rounds, some elections took three times as long. If moving
 /// went back to the best round, rankings round four centres took more than twice as long.
@@ -103,9 +112,43 @@ impl<A: Allocator + Copy> NeedSearch<'_, A> {
             moves.work(0);
             return Some(node.free);
         };
+        self.raise(*weights, node);
         let moved = narrowed(self, *weights, node, NODE);
         moves.note(node, &moved);
         moved.free
+    }
+
+    /// Raises the weights of the ballots that need hits at a node, if all of them are small. Only how they compare with
+    /// one another matters.
+    fn raise(&self, weights: &Multipliers<A>, node: &Node)
+        requires is_node { IsNode self.now.profile.now.m node.now.set node.now.free }
+    {
+        let mut together: u64 = 0;
+        for i in 0..self.profile.rows() {
+            if self.needs_hits(i, node) {
+                together = together.saturating_add(weights.within(i, 0, MOST_MOVED));
+            }
+        }
+        if together >= LEAST_TOGETHER {
+            return;
+        }
+        let factor = RAISED / together.max(1);
+        for i in 0..self.profile.rows() {
+            if self.needs_hits(i, node) {
+                let weight = weights.within(i, 0, MOST_MOVED).saturating_add(1);
+                weights.begin(i, weight.saturating_mul(factor));
+            }
+        }
+    }
+
+    /// Whether the ballot of row i needs hits at a node.
+    fn needs_hits(&self, i: usize, node: &Node) -> bool
+        requires valid { IsElection self.now.profile.now }
+        requires row { i < length self.now.profile.now.rows }
+        requires is_node { IsNode self.now.profile.now.m node.now.set node.now.free }
+    {
+        let (ballot, _voters) = self.profile.row(i);
+        still_needed(ballot, node, self.most) > 0
     }
 
     /// The weight of row i, whose ballot needs some of its free candidates.
