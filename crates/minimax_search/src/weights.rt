@@ -186,8 +186,11 @@ impl<A: Allocator + Copy> RowBound for NeedSearch<'_, A> {
             if needed > 0 {
                 let approved = ballot.common(node.free);
                 let weight = u128::from(self.weight(i, needed, approved));
-                needs.due += weight * u128::from(needed);
-                needs.worths.add(approved, weight);
+                // Most moved weights are 0.
+                if weight > 0 {
+                    needs.due += weight * u128::from(needed);
+                    needs.worths.add(approved, weight);
+                }
             }
         }
         needs

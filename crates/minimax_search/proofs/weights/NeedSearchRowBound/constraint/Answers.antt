@@ -9,7 +9,7 @@ use Rattle.row_multipliers.proofs.HitLemmas.{free-common}
 use Rattle.row_multipliers.proofs.SearchLemmas.{part-most}
 use Rattle.minimax_search.proofs.WeightedNeeds.{AreNeeds, turns-few, weighted-more, weighted-paid}
 use Rattle.minimax_search.proofs.weights.NeedSearchRowBound.constraint.Goals as goal
-use Rattle.minimax_search.proofs.weights.NeedSearchRowBound.constraint.Goals.{then-needed-gt0, else-needed-gt0}
+use Rattle.minimax_search.proofs.weights.NeedSearchRowBound.constraint.Goals.{then-needed-gt0+then-weight-gt0, then-needed-gt0+else-weight-gt0, else-needed-gt0}
 
 pub still_needed-needed-requires : goal.still_needed-needed-requires
 still_needed-needed-requires g c =
@@ -51,7 +51,7 @@ loop-i-preserved g c =
     let inv = c.loop-i.invariant in
     let AreSoFar = AreNeeds e search.most node (c.loop-i.i + 1) in
     elim c.if-needed-gt0.branch [
-      | then-needed-gt0 w ↦
+      | then-needed-gt0+then-weight-gt0 w ↦
           let few : w.from.result ≤ 255 = omega (arith, w.from.ensures) in
           let slight : w.from-weight.result ≤ 2 ^ 62 = omega (arith, w.from-weight.ensures, w.weight.ensures) in
           let added = product-most w.from-weight.result w.from.result slight few in
@@ -66,6 +66,12 @@ loop-i-preserved g c =
             small_total = omega (arith, added, inv.small_total);
             small = λ n. omega (arith, slight, inv.small n, w.add.ensures n, part-most (has_member w.common-approved.result n) w.from-weight.result);
           }
+      | then-needed-gt0+else-weight-gt0 w ↦ subst AreSoFar (sym w.needs-is) record {
+        unpaid = inv.unpaid;
+        weighted = inv.weighted;
+        small_total = omega (arith, inv.small_total);
+        small = λ n. omega (arith, inv.small n);
+      }
       | else-needed-gt0 w ↦ subst AreSoFar (sym w.needs-is) record {
         unpaid = inv.unpaid;
         weighted = inv.weighted;
