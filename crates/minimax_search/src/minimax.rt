@@ -42,8 +42,8 @@ impl<'a, A: Allocator + Copy> Model for MinimaxSearch<'a, A> {
 /// at one of the first. With 1, 20 random candidates and 10 seats took 37 % more instructions. Any number works.
 const ROUND: u64 = 2;
 
-/// The number of sets of a short search. If a search lasts longer, a walk often finds sooner what is looked for. Any
-/// number works.
+/// The number of sets of a short search. If a search lasts longer, a walk often finds sooner what is looked for. With
+/// 10,000, one of five elections with 64 random candidates and 10 seats took 1.9 times as long. Any number works.
 const SHORT_SEARCH: u64 = 1000;
 
 impl<'a, A: Allocator + Copy + Drop> MinimaxSearch<'a, A> {
