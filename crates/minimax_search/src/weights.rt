@@ -24,8 +24,8 @@ use std::alloc::Allocator;
 pub(crate) const FIRST_WEIGHT: u64 = 1 << 26;
 
 /// Weights are raised if those of the ballots that need hits are together less than this. Moving makes them smaller,
-/// and the shortest step would then leave only zeros. Without it, 64 popular candidates and 20 seats took over 8 s, and
-/// 0.2 s with it. Any number works.
+/// and the shortest step would then leave only zeros. When weights began with 2^20 and were not raised, 64 popular
+/// candidates and 20 seats took over 8 s, and they take 0.2 s now. Any number works.
 const LEAST_TOGETHER: u64 = 1 << 28;
 
 /// About what raised weights are together.
