@@ -6,8 +6,8 @@ use Rattle.ballot_base.specs.Ballots.{Row}
 use Rattle.ballot_base.specs.CandSet.{without_member}
 use Rattle.tie_walk.specs.Sequences.{supporters}
 
--- constant + worth * h - overlap * h * h is at least what h hits after the first `before` give in all, for h up to `most`:
--- times the scale, in units
+-- constant + worth * h - overlap * h * h is at least what h hits after the first `before` give in all, for h up to
+-- `most`: times the scale, in units
 abbrev pub IsMajorant : List ℕ → ℕ → ℕ → ℕ → ℕ → ℕ → ℕ → ℕ → Type 0
 IsMajorant weights scale unit before most constant worth overlap =
     (h : ℕ) → h ≤ most

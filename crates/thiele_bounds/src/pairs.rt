@@ -87,8 +87,8 @@ impl<A: Allocator + Copy> PairSearch<'_, A> {
         requires is_node { IsNode self.now.profile.now.m node.now.set node.now.free }
         requires some { 1 ≤ length node.now.free }
         requires nothing { AreNothing totals.old.constant totals.old.worths totals.old.overlaps }
-        ensures totals { BoundNode self.now.given.now self.now.profile.now node.now totals.new.constant totals.new.worths
-            totals.new.overlaps }
+        ensures totals { BoundNode self.now.given.now self.now.profile.now node.now totals.new.constant
+            totals.new.worths totals.new.overlaps }
         ensures small { AreSmall totals.new }
     {
         let mut majorants = Majorants::new(&self.given.sums, node.left, node.free.len(), shape);

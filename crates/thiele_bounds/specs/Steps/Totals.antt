@@ -13,7 +13,8 @@ use Rattle.thiele_bounds.specs.declared.pairs.Totals.{Totals}
 abbrev pub BoundNode : HitSums → Election → Node → ℕ → List ℕ → List ℕ → Type 0
 BoundNode given election node constant worths table = (weights : List ℕ)
     → AreSums weights given.scale given.unit given.sums
-    → AreTotals weights given.scale given.unit election.m election.rows node.set node.free node.left constant worths table
+    → AreTotals weights given.scale given.unit election.m election.rows node.set node.free node.left constant worths
+      table
 
 -- under each rule with these sums, the answer is right at a node
 abbrev pub NarrowsUnder : HitSums → Election → Node → ℕ → Option (List ℕ) → Type 0

@@ -82,7 +82,8 @@ IsAnswer value m k branch answer = MatchOption answer (IsBarren value m k branch
 -- what is known of the committees of k with the highest value is true
 abbrev pub IsOracle : {S : Type 0} → (S → List ℕ → ℕ) → (S → ℕ → List ℕ) → (S → ℕ) → Oracle S → Type 0
 IsOracle value class candidates oracle =
-    IsSearched (value oracle.search) (class oracle.search) (candidates oracle.search) oracle.m oracle.k oracle.value oracle.tied
+    IsSearched (value oracle.search) (class oracle.search) (candidates oracle.search) oracle.m oracle.k oracle.value
+    oracle.tied
 
 -- what is true of winners that are asked for
 pub record IsAsking (value : List ℕ → ℕ) (m k : ℕ) (asking : Asking) : Type 0 where
@@ -151,8 +152,8 @@ IsStepIn value candidates oracle before found after =
 abbrev pub IsStepFrom : {S : Type 0} → (S → List ℕ → ℕ) → (S → ℕ) → Oracle S → Asking → Branch → List (List ℕ)
     → Asking → Type 0
 IsStepFrom value candidates oracle before branch found after =
-    IsStep (value oracle.search) (candidates oracle.search) oracle.k (before.branches.items ++ branch ∷ []) before.entered
-    found after.branches.items after.entered
+    IsStep (value oracle.search) (candidates oracle.search) oracle.k (before.branches.items ++ branch ∷ [])
+    before.entered found after.branches.items after.entered
 
 -- ---- the start
 
@@ -180,8 +181,8 @@ pub record IsBegun (value : List ℕ → ℕ) (m k : ℕ) (after : Option (List 
   pub questions : asking.asked ≡ 0
 
 -- what is true of winners that are listed
-pub record IsListing {S : Type 0} (value : S → List ℕ → ℕ) (class : S → ℕ → List ℕ) (candidates : S → ℕ) (oracle : Oracle S)
-    (after : Option (List ℕ)) (asking : Asking) : Type 0 where
+pub record IsListing {S : Type 0} (value : S → List ℕ → ℕ) (class : S → ℕ → List ℕ) (candidates : S → ℕ)
+    (oracle : Oracle S) (after : Option (List ℕ)) (asking : Asking) : Type 0 where
   pub knows : IsOracle value class candidates oracle
   pub asking_is : IsAsking (value oracle.search) (candidates oracle.search) oracle.k asking
   pub counted : IsCounted (value oracle.search) (candidates oracle.search) oracle.k after asking
