@@ -2,7 +2,7 @@
 use Rattle.std.proofs.Common.{◌≡◌, ◌/◌, zero, suc, [], ◌∷◌, refl, length, lit≤, arith}
 use Rattle.thiele_bounds.specs.Pairs.{IsMajorant, all_constants, all_overlap, all_worth, pair_sum, row_sum, worth_beside}
 use Rattle.thiele_bounds.specs.Prices.{IsLinearMajorant}
-use Rattle.thiele_bounds.specs.Triples.{IsCubicMajorant, all_triples, member_less, member_more}
+use Rattle.thiele_bounds.specs.Triples.{IsCubicMajorant, all_triples, sum_of_pairs, sum_of_triples}
 
 -- ---- prices: under proportional approval voting, in sixths, a voter gives 6 for a hit, 3 more for a second and 2 more
 -- for a third, and each hit costs 4
@@ -62,29 +62,26 @@ beside-two = refl
 sum-row : row_sum (λ n. 20) (λ i j. 3) (1 ∷ 2 ∷ 3 ∷ []) 2 10 22 1 ≡ 50
 sum-row = refl
 
--- ---- three members: under proportional approval voting, in sixths, a voter gives 6, 9 and 11 for one, two and three hits
+-- ---- three members: under proportional approval voting, in twelfths, a voter gives 12, 18 and 22 for one, two and three
+-- hits, and 25 for four
 
--- Of three members, this is at least twice as much: 12, 18 and 22. A member that the voter approves counts the price
--- 12, and with each other the worth 1 less the charge 3, and for each ordered pair of others the triple 1 less the
--- overlap 1: in all 12, 10 and 8 with one, two and three hits. A member that the voter does not approve counts 1 - 1 with
--- one hit, and 2 - 4 with two. So one hit counts 12 + 0 + 0, two hits 10 + 10 - 2, and three hits 24.
-cubic-three : IsCubicMajorant (6 ∷ 3 ∷ 2 ∷ []) 1 1 0 3 2 3 0 1 1 12 3 1
-cubic-three zero few = lit≤ tt
-cubic-three (suc zero) few = lit≤ tt
-cubic-three (suc (suc zero)) few = lit≤ tt
-cubic-three (suc (suc (suc zero))) few = lit≤ tt
-cubic-three (suc (suc (suc (suc h)))) few = absurd (omega (arith, few))
+-- 12 h - 3 h (h - 1) + h (h - 1) (h - 2) is 12 and 18 at one hit and at two, 24 at three, and 36 at four
+cubic-four : IsCubicMajorant (12 ∷ 6 ∷ 4 ∷ 3 ∷ []) 1 1 0 4 0 12 3 1
+cubic-four zero few = lit≤ tt
+cubic-four (suc zero) few = lit≤ tt
+cubic-four (suc (suc zero)) few = lit≤ tt
+cubic-four (suc (suc (suc zero))) few = lit≤ tt
+cubic-four (suc (suc (suc (suc zero)))) few = lit≤ tt
+cubic-four (suc (suc (suc (suc (suc h))))) few = absurd (omega (arith, few))
 
--- of two voters who approve 1, 2 and 3, and one who approves 2 and 3, with the triple 5
+-- two voters approve 1, 2 and 3, with the triple 5, and one voter approves 2 and 3
 triples-three : all_triples (λ row. 5) ((1 ∷ 2 ∷ 3 ∷ [], 2) ∷ (2 ∷ 3 ∷ [], 1) ∷ []) 1 2 3 ≡ 10
 triples-three = refl
 
--- the member 1 of 1, 2 and 3 takes away the overlaps 1 of the four ordered pairs of 2 and 3, each for three voters, and
--- its charges 3 with 2 and with 3, each for two voters
-less-first : member_less (λ row. 1) (λ row. 3) ((1 ∷ 2 ∷ 3 ∷ [], 2) ∷ (2 ∷ 3 ∷ [], 1) ∷ []) (1 ∷ 2 ∷ 3 ∷ []) 1 ≡ 24
-less-first = refl
+-- 12 and 21, 13 and 31, 23 and 32
+pairs-different : sum_of_pairs (λ i j. 10 * i + j) (1 ∷ 2 ∷ 3 ∷ []) ≡ 132
+pairs-different = refl
 
--- it brings the constants 1 of three voters, its price 12 for two voters, the worths 1 of 2 and of 3 for three voters
--- each, and the triples 1 of four ordered pairs for two voters
-more-first : member_more (λ row. 1) (λ row. 1) (λ row. 12) (λ row. 1) ((1 ∷ 2 ∷ 3 ∷ [], 2) ∷ (2 ∷ 3 ∷ [], 1) ∷ []) (1 ∷ 2 ∷ 3 ∷ []) 1 ≡ 41
-more-first = refl
+-- 123, 132, 213, 231, 312 and 321
+triples-different : sum_of_triples (λ i j l. 100 * i + 10 * j + l) (1 ∷ 2 ∷ 3 ∷ []) ≡ 1332
+triples-different = refl

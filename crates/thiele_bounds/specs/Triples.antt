@@ -1,39 +1,28 @@
--- Three members at a time. What a voter gives for h hits is at most a cubic function of h, and a cubic function counts
--- the ordered triples of members that the voter approves. Seen from one member of the three, these are pairs: each
--- member counts the pairs of the others, and row sums bound each count (Gallo, Hammer and Simeone, Quadratic knapsack
--- problems).
+-- Three members at a time. What a voter gives for h hits is at most a cubic function of h, and cubic functions count
+-- the ordered pairs and triples of different members that the voter approves. Row sums bound a sum over triples by one
+-- over the members (Gallo, Hammer and Simeone, Quadratic knapsack problems, has them for pairs).
 use Rattle.std.specs.Prelude.{ℕ, ◌+◌, ◌-◌, ◌*◌, ◌≤◌, List, sum, sum_by, take}
 use Rattle.ballot_base.specs.Ballots.{Row}
 use Rattle.ballot_base.specs.CandSet.{without_member}
 use Rattle.tie_walk.specs.Sequences.{supporters}
-use Rattle.thiele_bounds.specs.Pairs.{all_constants, all_overlap, all_worth, pair_sum}
+use Rattle.thiele_bounds.specs.Pairs.{all_overlap}
 
--- Each of `left` members counts a voter once. With h hits, the h members that the voter approves see h - 1 others of
--- them, and the other members see h. What they count together is at least `times` times what h hits after the first
--- `before` give in all, for h up to `most`: times the scale, in units. A member counts a constant, a worth for each other
--- that the voter approves, and less an overlap for each ordered pair of these; a member that the voter approves counts
--- a price besides, less a charge for each other, and a triple for each pair.
-abbrev pub IsCubicMajorant : List ℕ → ℕ → ℕ → ℕ → ℕ → ℕ → ℕ → ℕ → ℕ → ℕ → ℕ → ℕ → ℕ → Type 0
-IsCubicMajorant weights scale unit before most times left constant worth overlap price charge triple =
+-- constant + worth * h - overlap * h * (h - 1) + triple * h * (h - 1) * (h - 2) is at least what h hits after the first
+-- `before` give in all, for h up to `most`: times the scale, in units
+abbrev pub IsCubicMajorant : List ℕ → ℕ → ℕ → ℕ → ℕ → ℕ → ℕ → ℕ → ℕ → Type 0
+IsCubicMajorant weights scale unit before most constant worth overlap triple =
     (h : ℕ) → h ≤ most
-    → times * (scale * sum (take (before + h) weights))
-    + unit * (h * (overlap * ((h - 1) * (h - 1)) + charge * (h - 1)) + (left - h) * (overlap * (h * h)))
-    ≤ unit * (h * (constant + price + worth * (h - 1) + triple * ((h - 1) * (h - 1)))
-    + (left - h) * (constant + worth * h))
+    → scale * sum (take (before + h) weights) + unit * (overlap * (h * (h - 1)))
+    ≤ unit * (constant + worth * h + triple * (h * ((h - 1) * (h - 2))))
 
 -- the triples of all voters who approve all three candidates
 abbrev pub all_triples : (Row → ℕ) → List Row → ℕ → ℕ → ℕ → ℕ
 all_triples triple rows i = all_overlap triple (supporters rows i)
 
--- what a member takes away: the overlaps of all ordered pairs of the others, and its charges with each of them
-abbrev pub member_less : (Row → ℕ) → (Row → ℕ) → List Row → List ℕ → ℕ → ℕ
-member_less overlap charge rows members i =
-    pair_sum (all_overlap overlap rows) (without_member members i)
-    + sum_by (all_overlap charge rows i) (without_member members i)
+-- the sum over all ordered pairs of different members
+abbrev pub sum_of_pairs : (ℕ → ℕ → ℕ) → List ℕ → ℕ
+sum_of_pairs overlap members = sum_by (λ i. sum_by (overlap i) (without_member members i)) members
 
--- what a member brings: what all voters keep, its price, the worths of the others, and its triples with each pair of
--- them
-abbrev pub member_more : (Row → ℕ) → (Row → ℕ) → (Row → ℕ) → (Row → ℕ) → List Row → List ℕ → ℕ → ℕ
-member_more constant worth price triple rows members i =
-    all_constants constant rows + all_worth price rows i + sum_by (all_worth worth rows) (without_member members i)
-    + pair_sum (all_triples triple rows i) (without_member members i)
+-- the sum over all ordered triples of different members
+abbrev pub sum_of_triples : (ℕ → ℕ → ℕ → ℕ) → List ℕ → ℕ
+sum_of_triples triple members = sum_by (λ i. sum_of_pairs (triple i) (without_member members i)) members

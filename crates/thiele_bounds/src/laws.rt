@@ -8,7 +8,7 @@ ghost use Rattle.tie_walk.specs.Values.{thiele_value};
 ghost use Rattle.row_multipliers.specs.Completions.{IsNode, IsCompletion};
 ghost use Rattle.thiele_bounds.specs.Pairs.{IsMajorant, all_constants, all_overlap, all_worth, pair_sum, row_sum};
 ghost use Rattle.thiele_bounds.specs.Prices.{IsLinearMajorant};
-ghost use Rattle.thiele_bounds.specs.Triples.{IsCubicMajorant, member_less, member_more};
+ghost use Rattle.thiele_bounds.specs.Triples.{IsCubicMajorant, all_triples, sum_of_pairs, sum_of_triples};
 
 /// A majorant for each row bounds what its voters give, by the hits among the added members. Summed over the rows, no
 /// committee is worth more than what all voters keep and the worths of the added members, less the overlaps of all
@@ -51,16 +51,17 @@ pub fn prices()
         ≤ unit * (all_constants constant rows + sum_by (all_worth multiplier rows) (common_members free committee)) }
 {}
 
-/// Cubic majorants bound a committee by what each added member brings and takes away, summed over the members. The sum
-/// is at least `times` times the committee's value. Any numbers that make majorants work.
+/// A cubic majorant for each row bounds what its voters give. Summed over the rows, no committee is worth more than what
+/// all voters keep, the worths of the added members and the triples of all ordered triples of different ones, less the
+/// overlaps of all ordered pairs of different ones. Any numbers that make majorants work.
 pub fn triples()
-    ensures { (weights : List ℕ) (scale unit m : ℕ) (constant worth overlap price charge triple : Row → ℕ)
-        (rows : List Row) (set free : List ℕ) (times left : ℕ) (committee members : List ℕ)
-        → AllByRecursion (λ row. IsIncreasing 1 m row.0) rows
-        → IsNode m set free → IsCompletion m set free left committee → members ≡ common_members free committee
-        → AllByRecursion (λ row. IsCubicMajorant weights scale unit (hits row.0 set) (min left (hits row.0 free)) times
-        left (constant row) (worth row) (overlap row) (price row) (charge row) (triple row)) rows
-        → times * (scale * thiele_value weights rows committee)
-        + unit * sum_by (member_less overlap charge rows members) members
-        ≤ unit * sum_by (member_more constant worth price triple rows members) members }
+    ensures { (weights : List ℕ) (scale unit m : ℕ) (constant worth overlap triple : Row → ℕ) (rows : List Row)
+        (set free : List ℕ) (left : ℕ) (committee : List ℕ) → AllByRecursion (λ row. IsIncreasing 1 m row.0) rows
+        → IsNode m set free → IsCompletion m set free left committee
+        → AllByRecursion (λ row. IsCubicMajorant weights scale unit (hits row.0 set) (min left (hits row.0 free))
+        (constant row) (worth row) (overlap row) (triple row)) rows
+        → scale * thiele_value weights rows committee
+        + unit * sum_of_pairs (all_overlap overlap rows) (common_members free committee)
+        ≤ unit * (all_constants constant rows + sum_by (all_worth worth rows) (common_members free committee)
+        + sum_of_triples (all_triples triple rows) (common_members free committee)) }
 {}

@@ -1,196 +1,161 @@
--- Triples of members, counted member by member.
-use Rattle.std.proofs.Common.{◌≡◌, ℕ, zero, suc, ◌+◌, ◌-◌, ◌*◌, ◌≤◌, ◌==◌, ◌∙◌, Bool, true, false, cond, List, [], ◌∷◌, refl, sym, ap, arith, length, min, sum, sum_by, take}
+-- Triples of members.
+use Rattle.std.proofs.Common.{◌≡◌, ℕ, zero, suc, ◌+◌, ◌-◌, ◌*◌, ◌≤◌, ◌==◌, ◌∙◌, Bool, true, false, not, cond, List, [], ◌∷◌, refl, sym, ap, arith, length, min, sum, sum_by, take}
 use Rattle.std.specs.List.{AllByRecursion}
 use Rattle.std.proofs.Math.Nat.{mul-le-mul_left}
 use Rattle.std.proofs.lemmas.List.Sums.{sum_by-cons}
 use Rattle.ballot_base.specs.Lists.{IsIncreasing}
 use Rattle.ballot_base.specs.CandSet.{has_member, common_members, without_member}
 use Rattle.ballot_base.specs.Ballots.{Row, hits}
-use Rattle.ballot_base.proofs.Increasing.{has_member_head}
+use Rattle.ballot_base.proofs.Increasing.{IsIncreasing-filter}
 use Rattle.tie_walk.specs.Sequences.{supporters}
 use Rattle.tie_walk.specs.Values.{thiele_value}
 use Rattle.row_multipliers.specs.Completions.{IsNode, IsCompletion}
-use Rattle.thiele_bounds.specs.Pairs.{all_constants, all_worth, all_overlap, pair_sum}
-use Rattle.thiele_bounds.specs.Triples.{IsCubicMajorant, all_triples, member_less, member_more}
-use Rattle.row_multipliers.proofs.CompletionLemmas.{added, added-increasing, added-size}
-use Rattle.thiele_bounds.proofs.PairBounds.PairLemmas.{hits-few, hits-joined, hits-sum, joined, or-true, overlap-cons, pairs-more, sum-apart, sum-equal, sum-more, worth-cons}
+use Rattle.thiele_bounds.specs.Pairs.{all_constants, all_worth, all_overlap}
+use Rattle.thiele_bounds.specs.Triples.{IsCubicMajorant, all_triples, sum_of_pairs, sum_of_triples}
+use Rattle.row_multipliers.proofs.CompletionLemmas.{added, added-increasing}
+use Rattle.thiele_bounds.proofs.PairBounds.PairLemmas.{hits-few, hits-joined, hits-sum, overlap-cons, sum-apart, sum-equal, sum-more, worth-cons}
 
--- how many members a ballot has, and how many it has not
+-- how many members a ballot has
 abbrev pub ones : (ℕ → Bool) → List ℕ → ℕ
 ones has xs = sum_by (λ n. cond (has n) 1 0) xs
 
-abbrev pub zeros : (ℕ → Bool) → List ℕ → ℕ
-zeros has xs = sum_by (λ n. cond (has n) 0 1) xs
+-- an amount for the triples that a ballot has
+abbrev pub part : Bool → Bool → Bool → ℕ → ℕ
+part p q r n = cond p (cond q (cond r n 0) 0) 0
 
-pub both-length : (has : ℕ → Bool) (xs : List ℕ) → ones has xs + zeros has xs ≡ length xs
-both-length has [] = refl
-both-length has (x ∷ xs) = omega (arith, both-length has xs, one (has x), sum_by-cons (λ n. cond (has n) 1 0) x xs, sum_by-cons (λ n. cond (has n) 0 1) x xs)
+pub rest-rises : (m i : ℕ) (xs : List ℕ) → IsIncreasing 1 m xs → IsIncreasing 1 m (without_member xs i)
+rest-rises m i xs up = IsIncreasing-filter (λ x. not (x == i)) 1 m xs up
+
+-- pairs of a ballot count more by the same
+pub of-pairs-more : (f g : ℕ → ℕ → ℕ) (has : ℕ → Bool) (more m : ℕ) (xs : List ℕ) → IsIncreasing 1 m xs
+    → ((i j : ℕ) → g i j ≡ f i j + cond (has i) (cond (has j) more 0) 0)
+    → sum_of_pairs g xs ≡ sum_of_pairs f xs + more * (ones has xs * (ones has xs - 1))
+of-pairs-more f g has more m xs up are =
+    let h = ones has xs in
+    let turned : (a b : ℕ) → a * (b - 1) * b ≡ a * (b * (b - 1)) = λ a b. omega arith in
+    omega (arith, sum-more (λ i. sum_by (f i) (without_member xs i)) (λ i. sum_by (g i) (without_member xs i)) has (more * (h - 1)) xs row, turned more h)
   where
-    one : (b : Bool) → cond b 1 0 + cond b 0 1 ≡ 1
-    one true = refl
-    one false = refl
+    row : (i : ℕ) → has_member xs i ≡ true → sum_by (g i) (without_member xs i) ≡ sum_by (f i) (without_member xs i) + cond (has i) (more * (ones has xs - 1)) 0
+    row i here = by (has i) refl (sum-apart (λ n. cond (has n) 1 0) m 1 i xs up here)
+      where
+        by : (b : Bool) → has i ≡ b → ones has xs ≡ cond b 1 0 + ones has (without_member xs i)
+            → sum_by (g i) (without_member xs i) ≡ sum_by (f i) (without_member xs i) + cond b (more * (ones has xs - 1)) 0
+        by true e count =
+            let y : ones has xs - 1 ≡ ones has (without_member xs i) = omega (arith, count) in
+            omega (arith, sum-more (f i) (g i) has more (without_member xs i) (λ j is. are i j ∙ ap (λ b. f i j + cond b (cond (has j) more 0) 0) e), ap (λ n. more * n) y)
+        by false e count =
+            let same : sum_by (g i) (without_member xs i) ≡ sum_by (f i) (without_member xs i) =
+            sum-equal (g i) (f i) (without_member xs i) (λ j is. omega (arith, are i j ∙ ap (λ b. f i j + cond b (cond (has j) more 0) 0) e)) in
+            omega (arith, same)
 
--- members of a ballot count more by one amount, and the others by another
-pub sum-choice : (f g : ℕ → ℕ) (has : ℕ → Bool) (within outside : ℕ) (xs : List ℕ) → ((n : ℕ) → has_member xs n ≡ true → g n ≡ f n + cond (has n) within outside)
-    → sum_by g xs ≡ sum_by f xs + (ones has xs * within + zeros has xs * outside)
-sum-choice f g has within outside [] are = omega arith
-sum-choice f g has within outside (x ∷ xs) are =
-    let tail = sum-choice f g has within outside xs (λ n is. are n (or-true (x == n) (has_member xs n) is)) in
-    let split : (a b c : ℕ) → (a + b) * c ≡ a * c + b * c = λ a b c. omega arith in
-    omega (
-      arith,
-      tail,
-      are x (has_member_head x xs),
-      part (has x),
-      split (cond (has x) 1 0) (ones has xs) within,
-      split (cond (has x) 0 1) (zeros has xs) outside,
-      ap (λ n. n * within) (sum_by-cons (λ n. cond (has n) 1 0) x xs),
-      ap (λ n. n * outside) (sum_by-cons (λ n. cond (has n) 0 1) x xs),
-      sum_by-cons f x xs,
-      sum_by-cons g x xs,
-    )
+-- triples of a ballot count more by the same
+pub of-triples-more : (f g : ℕ → ℕ → ℕ → ℕ) (has : ℕ → Bool) (more m : ℕ) (xs : List ℕ) → IsIncreasing 1 m xs
+    → ((i j l : ℕ) → g i j l ≡ f i j l + part (has i) (has j) (has l) more)
+    → sum_of_triples g xs ≡ sum_of_triples f xs + more * (ones has xs * ((ones has xs - 1) * (ones has xs - 2)))
+of-triples-more f g has more m xs up are =
+    let h = ones has xs in
+    let turned : (a b c d : ℕ) → a * (c * d) * b ≡ a * (b * (c * d)) = λ a b c d. omega arith in
+    omega (arith, sum-more (λ i. sum_of_pairs (f i) (without_member xs i)) (λ i. sum_of_pairs (g i) (without_member xs i)) has (more * ((h - 1) * (h - 2))) xs row, turned more h (h - 1) (h - 2))
   where
-    part : (b : Bool) → cond b within outside ≡ cond b 1 0 * within + cond b 0 1 * outside
-    part true = omega arith
-    part false = omega arith
+    row : (i : ℕ) → has_member xs i ≡ true → sum_of_pairs (g i) (without_member xs i) ≡ sum_of_pairs (f i) (without_member xs i) + cond (has i) (more * ((ones has xs - 1) * (ones has xs - 2))) 0
+    row i here = by (has i) refl (sum-apart (λ n. cond (has n) 1 0) m 1 i xs up here)
+      where
+        rest : List ℕ
+        rest = without_member xs i
 
-module _ (m : ℕ) (members : List ℕ) (up : IsIncreasing 1 m members) (row : Row) (rows : List Row) (i : ℕ) (here : has_member members i ≡ true) where
-  abbrev others : List ℕ
-  others = without_member members i
+        by : (b : Bool) → has i ≡ b → ones has xs ≡ cond b 1 0 + ones has (without_member xs i)
+            → sum_of_pairs (g i) (without_member xs i) ≡ sum_of_pairs (f i) (without_member xs i) + cond b (more * ((ones has xs - 1) * (ones has xs - 2))) 0
+        by true e count =
+            let y : ones has xs - 1 ≡ ones has (without_member xs i) = omega (arith, count) in
+            let z : ones has xs - 2 ≡ ones has (without_member xs i) - 1 = omega (arith, count) in
+            omega (
+              arith,
+              of-pairs-more (f i) (g i) has more m (without_member xs i) (rest-rises m i xs up) (λ j l. are i j l ∙ ap (λ b. f i j l + part b (has j) (has l) more) e),
+              ap (λ n. more * (n * (ones has xs - 2))) y,
+              ap (λ n. more * (ones has (without_member xs i) * n)) z,
+            )
+        by false e count =
+            let same : sum_of_pairs (g i) (without_member xs i) ≡ sum_of_pairs (f i) (without_member xs i) =
+            sum-equal (λ j. sum_by (g i j) (without_member (without_member xs i) j)) (λ j. sum_by (f i j) (without_member (without_member xs i) j)) (without_member xs i)
+                (λ j is. sum-equal (g i j) (f i j) (without_member (without_member xs i) j) (λ l is'. omega (arith, are i j l ∙ ap (λ b. f i j l + part b (has j) (has l) more) e))) in
+            omega (arith, same)
 
-  abbrev has : ℕ → Bool
-  has = has_member row.0
+-- the triples of a row more
+pub triples-cons : (triple : Row → ℕ) (row : Row) (rows : List Row) (i j l : ℕ)
+    → all_triples triple (row ∷ rows) i j l ≡ all_triples triple rows i j l + part (has_member row.0 i) (has_member row.0 j) (has_member row.0 l) (row.1 * triple row)
+triples-cons triple row rows i j l = by (has_member row.0 i)
+  where
+    by : (b : Bool) → all_overlap triple (cond b (row ∷ supporters rows i) (supporters rows i)) j l ≡ all_overlap triple (supporters rows i) j l + part b (has_member row.0 j) (has_member row.0 l) (row.1 * triple row)
+    by true = overlap-cons triple row (supporters rows i) j l
+    by false = omega arith
 
-  -- the hits among the others, and one more if the ballot has the member
-  hits-apart : ones has members ≡ cond (has i) 1 0 + ones has others
-  hits-apart = sum-apart (λ n. cond (has n) 1 0) m 1 i members up here
-
-  charges-more : (charge : Row → ℕ) → sum_by (all_overlap charge (row ∷ rows) i) others ≡ sum_by (all_overlap charge rows i) others + cond (has i) (row.1 * charge row * ones has others) 0
-  charges-more charge = by (has i) refl
-    where
-      by : (b : Bool) → has i ≡ b → sum_by (all_overlap charge (row ∷ rows) i) others ≡ sum_by (all_overlap charge rows i) others + cond b (row.1 * charge row * ones has others) 0
-      by true e = sum-more (all_overlap charge rows i) (all_overlap charge (row ∷ rows) i) has (row.1 * charge row) others
-          (λ j is. overlap-cons charge row rows i j ∙ ap (λ b. all_overlap charge rows i j + cond b (cond (has j) (row.1 * charge row) 0) 0) e)
-      by false e =
-          let same = sum-equal (all_overlap charge (row ∷ rows) i) (all_overlap charge rows i) others
-              (λ j is. omega (arith, overlap-cons charge row rows i j ∙ ap (λ b. all_overlap charge rows i j + cond b (cond (has j) (row.1 * charge row) 0) 0) e)) in
-          omega (arith, same)
-
-  triples-more : (triple : Row → ℕ) → pair_sum (all_triples triple (row ∷ rows) i) others ≡ pair_sum (all_triples triple rows i) others + cond (has i) (row.1 * triple row * (ones has others * ones has others)) 0
-  triples-more triple = by (has i)
-    where
-      by : (b : Bool) → pair_sum (all_overlap triple (cond b (row ∷ supporters rows i) (supporters rows i))) others ≡ pair_sum (all_overlap triple (supporters rows i)) others + cond b (row.1 * triple row * (ones has others * ones has others)) 0
-      by true = pairs-more (all_overlap triple (supporters rows i)) (all_overlap triple (row ∷ supporters rows i)) has (row.1 * triple row) others (λ a b one other. overlap-cons triple row (supporters rows i) a b)
-      by false = omega arith
-
-  overlaps-more : (overlap : Row → ℕ) → pair_sum (all_overlap overlap (row ∷ rows)) others ≡ pair_sum (all_overlap overlap rows) others + row.1 * overlap row * (ones has others * ones has others)
-  overlaps-more overlap = pairs-more (all_overlap overlap rows) (all_overlap overlap (row ∷ rows)) has (row.1 * overlap row) others (λ a b one other. overlap-cons overlap row rows a b)
-
-  pub less-more : (overlap charge : Row → ℕ) → member_less overlap charge (row ∷ rows) members i ≡ member_less overlap charge rows members i
-      + cond (has i) (row.1 * (overlap row * ((ones has members - 1) * (ones has members - 1)) + charge row * (ones has members - 1))) (row.1 * (overlap row * (ones has members * ones has members)))
-  less-more overlap charge = by (has i) (overlaps-more overlap) (charges-more charge) hits-apart
-    where
-      by : (b : Bool) → pair_sum (all_overlap overlap (row ∷ rows)) others ≡ pair_sum (all_overlap overlap rows) others + row.1 * overlap row * (ones has others * ones has others)
-          → sum_by (all_overlap charge (row ∷ rows) i) others ≡ sum_by (all_overlap charge rows i) others + cond b (row.1 * charge row * ones has others) 0
-          → ones has members ≡ cond b 1 0 + ones has others
-          → member_less overlap charge (row ∷ rows) members i ≡ member_less overlap charge rows members i
-          + cond b (row.1 * (overlap row * ((ones has members - 1) * (ones has members - 1)) + charge row * (ones has members - 1))) (row.1 * (overlap row * (ones has members * ones has members)))
-      by true pairs charges count =
-          let y : ones has members - 1 ≡ ones has others = omega (arith, count) in
-          let ring : (v o u y : ℕ) → v * (o * (y * y) + u * y) ≡ v * o * (y * y) + v * u * y = λ v o u y. omega arith in
-          omega (arith, pairs, charges, ap (λ n. row.1 * (overlap row * (n * n) + charge row * n)) y, ring row.1 (overlap row) (charge row) (ones has others))
-      by false pairs charges count =
-          let ring : (v o y : ℕ) → v * (o * (y * y)) ≡ v * o * (y * y) = λ v o y. omega arith in
-          omega (arith, pairs, charges, ap (λ n. row.1 * (overlap row * (n * n))) count, ring row.1 (overlap row) (ones has others))
-
-  pub more-more : (constant worth price triple : Row → ℕ) → member_more constant worth price triple (row ∷ rows) members i ≡ member_more constant worth price triple rows members i
-      + cond (has i) (row.1 * (constant row + price row + worth row * (ones has members - 1) + triple row * ((ones has members - 1) * (ones has members - 1)))) (row.1 * (constant row + worth row * ones has members))
-  more-more constant worth price triple = by (has i) (worth-cons price row rows i) (triples-more triple) hits-apart
-    where
-      worths : sum_by (all_worth worth (row ∷ rows)) others ≡ sum_by (all_worth worth rows) others + row.1 * worth row * ones has others
-      worths = sum-more (all_worth worth rows) (all_worth worth (row ∷ rows)) has (row.1 * worth row) others (λ j is. worth-cons worth row rows j)
-
-      by : (b : Bool) → all_worth price (row ∷ rows) i ≡ all_worth price rows i + cond b (row.1 * price row) 0
-          → pair_sum (all_triples triple (row ∷ rows) i) others ≡ pair_sum (all_triples triple rows i) others + cond b (row.1 * triple row * (ones has others * ones has others)) 0
-          → ones has members ≡ cond b 1 0 + ones has others
-          → member_more constant worth price triple (row ∷ rows) members i ≡ member_more constant worth price triple rows members i
-          + cond b (row.1 * (constant row + price row + worth row * (ones has members - 1) + triple row * ((ones has members - 1) * (ones has members - 1)))) (row.1 * (constant row + worth row * ones has members))
-      by true prices triples count =
-          let y : ones has members - 1 ≡ ones has others = omega (arith, count) in
-          let ring : (v k p w t y : ℕ) → v * (k + p + w * y + t * (y * y)) ≡ v * k + v * p + v * w * y + v * t * (y * y) = λ v k p w t y. omega arith in
-          omega (arith, prices, triples, worths, sum_by-cons (λ (r : Row). r.1 * constant r) row rows, ap (λ n. row.1 * (constant row + price row + worth row * n + triple row * (n * n))) y, ring row.1 (constant row) (price row) (worth row) (triple row) (ones has others))
-      by false prices triples count =
-          let ring : (v k w y : ℕ) → v * (k + w * y) ≡ v * k + v * w * y = λ v k w y. omega arith in
-          omega (arith, prices, triples, worths, sum_by-cons (λ (r : Row). r.1 * constant r) row rows, ap (λ n. row.1 * (constant row + worth row * n)) count, ring row.1 (constant row) (worth row) (ones has others))
-
--- the voters of one row
-one-row : (times scale unit voters given h out less_in less_out more_in more_out : ℕ)
-    → times * (scale * given) + unit * (h * less_in + out * less_out) ≤ unit * (h * more_in + out * more_out)
-    → times * (scale * (voters * given)) + unit * (h * (voters * less_in) + out * (voters * less_out)) ≤ unit * (h * (voters * more_in) + out * (voters * more_out))
-one-row times scale unit voters given h out less_in less_out more_in more_out one =
-    let all : voters * (times * (scale * given) + unit * (h * less_in + out * less_out)) ≤ voters * (unit * (h * more_in + out * more_out)) = mul-le-mul_left voters one in
-    let low : (v l s g u h a o b : ℕ) → v * (l * (s * g) + u * (h * a + o * b)) ≡ l * (s * (v * g)) + u * (h * (v * a) + o * (v * b)) = λ v l s g u h a o b. omega arith in
-    let top : (v u h a o b : ℕ) → v * (u * (h * a + o * b)) ≡ u * (h * (v * a) + o * (v * b)) = λ v u h a o b. omega arith in
-    omega (arith, all, low voters times scale given unit h less_in out less_out, top voters unit h more_in out more_out)
+-- the voters of one row, with h hits among those who join
+one-row : (scale unit voters given constant worth overlap triple h pairs triples : ℕ)
+    → scale * given + unit * (overlap * pairs) ≤ unit * (constant + worth * h + triple * triples)
+    → scale * (voters * given) + unit * (voters * overlap * pairs) ≤ unit * (voters * constant + voters * worth * h + voters * triple * triples)
+one-row scale unit voters given constant worth overlap triple h pairs triples one =
+    let all : voters * (scale * given + unit * (overlap * pairs)) ≤ voters * (unit * (constant + worth * h + triple * triples)) = mul-le-mul_left voters one in
+    let low : (v s g u o p : ℕ) → v * (s * g + u * (o * p)) ≡ s * (v * g) + u * (v * o * p) = λ v s g u o p. omega arith in
+    let top : (v u k w h t q : ℕ) → v * (u * (k + w * h + t * q)) ≡ u * (v * k + v * w * h + v * t * q) = λ v u k w h t q. omega arith in
+    omega (arith, all, low voters scale given unit overlap pairs, top voters unit constant worth h triple triples)
 
 module _ (weights : List ℕ) (scale unit m : ℕ) (set free : List ℕ) (left : ℕ) (committee : List ℕ) (is_node : IsNode m set free) (whole : IsCompletion m set free left committee)
-    (times : ℕ) (constant worth overlap price charge triple : Row → ℕ) where
+    (constant worth overlap : Row → ℕ) (triple : Row → ℕ) where
   abbrev more : List ℕ
   more = common_members free committee
 
-  triples-none : (xs : List ℕ) → ((n : ℕ) → has_member xs n ≡ true → has_member more n ≡ true) → sum_by (member_less overlap charge [] more) xs ≡ 0
-  triples-none [] within = refl
-  triples-none (x ∷ xs) within = omega (arith, triples-none xs (λ n is. within n (or-true (x == n) (has_member xs n) is)), pairs (without_member more x) (without_member more x), none (without_member more x), sum_by-cons (member_less overlap charge [] more) x xs)
+  none-pairs : (xs : List ℕ) → sum_by (λ i. sum_by (all_overlap overlap [] i) (without_member more i)) xs ≡ 0
+  none-pairs [] = refl
+  none-pairs (x ∷ xs) = omega (arith, none-pairs xs, none (without_member more x), sum_by-cons (λ i. sum_by (all_overlap overlap [] i) (without_member more i)) x xs)
     where
-      none : (ys : List ℕ) → sum_by (all_overlap charge [] x) ys ≡ 0
+      none : (ys : List ℕ) → sum_by (all_overlap overlap [] x) ys ≡ 0
       none [] = refl
-      none (y ∷ ys) = omega (arith, none ys, sum_by-cons (all_overlap charge [] x) y ys)
-
-      row : (i : ℕ) (ys : List ℕ) → sum_by (all_overlap overlap [] i) ys ≡ 0
-      row i [] = refl
-      row i (y ∷ ys) = omega (arith, row i ys, sum_by-cons (all_overlap overlap [] i) y ys)
-
-      pairs : (zs ys : List ℕ) → sum_by (λ i. sum_by (all_overlap overlap [] i) ys) zs ≡ 0
-      pairs [] ys = refl
-      pairs (z ∷ zs) ys = omega (arith, pairs zs ys, row z ys, sum_by-cons (λ i. sum_by (all_overlap overlap [] i) ys) z zs)
+      none (y ∷ ys) = omega (arith, none ys, sum_by-cons (all_overlap overlap [] x) y ys)
 
   pub triples-bound : (rows : List Row) → AllByRecursion (λ row. IsIncreasing 1 m row.0) rows
-      → AllByRecursion (λ row. IsCubicMajorant weights scale unit (hits row.0 set) (min left (hits row.0 free)) times left (constant row) (worth row) (overlap row) (price row) (charge row) (triple row)) rows
-      → times * (scale * thiele_value weights rows committee) + unit * sum_by (member_less overlap charge rows more) more ≤ unit * sum_by (member_more constant worth price triple rows more) more
-  triples-bound [] ups are = omega (arith, ap (λ n. unit * n) (triples-none more (λ n is. is)))
+      → AllByRecursion (λ row. IsCubicMajorant weights scale unit (hits row.0 set) (min left (hits row.0 free)) (constant row) (worth row) (overlap row) (triple row)) rows
+      → scale * thiele_value weights rows committee + unit * sum_of_pairs (all_overlap overlap rows) more
+      ≤ unit * (all_constants constant rows + sum_by (all_worth worth rows) more + sum_of_triples (all_triples triple rows) more)
+  triples-bound [] ups are = omega (arith, ap (λ n. unit * n) (none-pairs more))
   triples-bound (row ∷ rows) ups are =
       let has = has_member row.0 in
       let up = added-increasing m set free left committee is_node whole in
-      let size : length more ≡ left = added-size m set free left committee is_node whole in
       let h = ones has more in
       let count : hits row.0 more ≡ h = hits-sum weights scale unit m set free left committee is_node whole row.0 ups.0 in
       let given = sum (take (hits row.0 set + h) weights) in
-      let out : zeros has more ≡ left - h = omega (arith, both-length has more, size) in
-      let less_in : ℕ = overlap row * ((h - 1) * (h - 1)) + charge row * (h - 1) in
-      let less_out : ℕ = overlap row * (h * h) in
-      let more_in : ℕ = constant row + price row + worth row * (h - 1) + triple row * ((h - 1) * (h - 1)) in
-      let more_out : ℕ = constant row + worth row * h in
       let few : h ≤ min left (hits row.0 free) = omega (arith, count, hits-few weights scale unit m set free left committee is_node whole row.0 ups.0) in
-      let one = one-row times scale unit row.1 given h (left - h) less_in less_out more_in more_out (are.0 h few) in
-      let less : sum_by (member_less overlap charge (row ∷ rows) more) more ≡ sum_by (member_less overlap charge rows more) more + (h * (row.1 * less_in) + zeros has more * (row.1 * less_out)) =
-      sum-choice (member_less overlap charge rows more) (member_less overlap charge (row ∷ rows) more) has (row.1 * less_in) (row.1 * less_out) more (λ i is. less-more m more up row rows i is overlap charge) in
-      let brought : sum_by (member_more constant worth price triple (row ∷ rows) more) more ≡ sum_by (member_more constant worth price triple rows more) more + (h * (row.1 * more_in) + zeros has more * (row.1 * more_out)) =
-      sum-choice (member_more constant worth price triple rows more) (member_more constant worth price triple (row ∷ rows) more) has (row.1 * more_in) (row.1 * more_out) more (λ i is. more-more m more up row rows i is constant worth price triple) in
+      let pairs : ℕ = h * (h - 1) in
+      let triples : ℕ = h * ((h - 1) * (h - 2)) in
+      let one = one-row scale unit row.1 given (constant row) (worth row) (overlap row) (triple row) h pairs triples (are.0 h few) in
+      let constants = sum_by-cons (λ (r : Row). r.1 * constant r) row rows in
+      let worths : sum_by (all_worth worth (row ∷ rows)) more ≡ sum_by (all_worth worth rows) more + row.1 * worth row * h =
+      sum-more (all_worth worth rows) (all_worth worth (row ∷ rows)) has (row.1 * worth row) more (λ n is. worth-cons worth row rows n) in
+      let overlaps : sum_of_pairs (all_overlap overlap (row ∷ rows)) more ≡ sum_of_pairs (all_overlap overlap rows) more + row.1 * overlap row * pairs =
+      of-pairs-more (all_overlap overlap rows) (all_overlap overlap (row ∷ rows)) has (row.1 * overlap row) m more up (overlap-cons overlap row rows) in
+      let thirds : sum_of_triples (all_triples triple (row ∷ rows)) more ≡ sum_of_triples (all_triples triple rows) more + row.1 * triple row * triples =
+      of-triples-more (all_triples triple rows) (all_triples triple (row ∷ rows)) has (row.1 * triple row) m more up (triples-cons triple row rows) in
       let value : thiele_value weights (row ∷ rows) committee ≡ row.1 * given + thiele_value weights rows committee =
       sum_by-cons (λ (r : Row). r.1 * sum (take (hits r.0 committee) weights)) row rows
       ∙ ap (λ n. row.1 * sum (take n weights) + thiele_value weights rows committee) (hits-joined weights scale unit m set free left committee is_node whole row.0 ∙ ap (λ n. hits row.0 set + n) count) in
-      let split : (a b c : ℕ) → a * (b + c) ≡ a * b + a * c = λ a b c. omega arith in
-      let deep : (l s b c : ℕ) → l * (s * (b + c)) ≡ l * (s * b) + l * (s * c) = λ l s b c. omega arith in
-      omega (
-        arith,
-        one,
-        triples-bound rows ups.1 are.1,
-        ap (λ n. times * (scale * n)) value,
-        deep times scale (row.1 * given) (thiele_value weights rows committee),
-        ap (λ n. unit * n) less,
-        ap (λ n. unit * n) brought,
-        split unit (sum_by (member_less overlap charge rows more) more) (h * (row.1 * less_in) + zeros has more * (row.1 * less_out)),
-        split unit (sum_by (member_more constant worth price triple rows more) more) (h * (row.1 * more_in) + zeros has more * (row.1 * more_out)),
-        ap (λ n. unit * (h * (row.1 * less_in) + n * (row.1 * less_out))) out,
-        ap (λ n. unit * (h * (row.1 * more_in) + n * (row.1 * more_out))) out,
-      )
+      combine (thiele_value weights (row ∷ rows) committee) (row.1 * given) (thiele_value weights rows committee) (sum_of_pairs (all_overlap overlap (row ∷ rows)) more) (sum_of_pairs (all_overlap overlap rows) more) (row.1 * overlap row * pairs)
+      (all_constants constant (row ∷ rows)) (all_constants constant rows) (row.1 * constant row) (sum_by (all_worth worth (row ∷ rows)) more) (sum_by (all_worth worth rows) more) (row.1 * worth row * h)
+      (sum_of_triples (all_triples triple (row ∷ rows)) more) (sum_of_triples (all_triples triple rows) more) (row.1 * triple row * triples) value overlaps constants worths thirds one (triples-bound rows ups.1 are.1)
+    where
+      combine : (v a v0 o o0 b k k0 c w w0 d t t0 e : ℕ) → v ≡ a + v0 → o ≡ o0 + b → k ≡ c + k0 → w ≡ w0 + d → t ≡ t0 + e
+          → scale * a + unit * b ≤ unit * (c + d + e) → scale * v0 + unit * o0 ≤ unit * (k0 + w0 + t0) → scale * v + unit * o ≤ unit * (k + w + t)
+      combine v a v0 o o0 b k k0 c w w0 d t t0 e v-is o-is k-is w-is t-is one before =
+          let two : (x y z : ℕ) → x * (y + z) ≡ x * y + x * z = λ x y z. omega arith in
+          let six : (x c k d w e t : ℕ) → x * (c + k + (w + d) + (t + e)) ≡ x * (c + d + e) + x * (k + w + t) = λ x c k d w e t. omega arith in
+          omega (
+            arith,
+            one,
+            before,
+            ap (λ n. scale * n) v-is,
+            two scale a v0,
+            ap (λ n. unit * n) o-is,
+            two unit o0 b,
+            ap (λ n. unit * (n + w + t)) k-is,
+            ap (λ n. unit * (c + k0 + n + t)) w-is,
+            ap (λ n. unit * (c + k0 + (w0 + d) + n)) t-is,
+            six unit c k0 d w0 e t0,
+          )
