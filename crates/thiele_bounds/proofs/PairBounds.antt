@@ -6,3 +6,4 @@ pub mod PairNodes
 pub mod PairTotals
 pub mod SumLemmas
 pub mod TripleLemmas
+pub mod TripleSums

@@ -26,3 +26,23 @@ sum_of_pairs overlap members = sum_by (λ i. sum_by (overlap i) (without_member 
 -- the sum over all ordered triples of different members
 abbrev pub sum_of_triples : (ℕ → ℕ → ℕ → ℕ) → List ℕ → ℕ
 sum_of_triples triple members = sum_by (λ i. sum_of_pairs (triple i) (without_member members i)) members
+
+-- a bound on the sum of `count` of the candidates: each of them brings the threshold, and the excess over it
+abbrev pub threshold_sum : (ℕ → ℕ) → List ℕ → ℕ → ℕ → ℕ
+threshold_sum worth candidates count threshold = count * threshold + sum_by (λ n. worth n - threshold) candidates
+
+-- the worth of three candidates together: less multiples of their overlaps, and raised so that it is not below 0
+abbrev pub worth_of_three : (ℕ → ℕ) → (ℕ → ℕ → ℕ) → (ℕ → ℕ → ℕ → ℕ) → ℕ → ℕ → ℕ → ℕ → ℕ → ℕ
+worth_of_three worth overlap triple left raise i j l =
+    worth i + worth j + worth l + 3 * (left - 1) * (left - 2) * triple i j l + raise
+    - (left - 1) * (overlap i j + overlap i l + overlap j l)
+
+-- for two free candidates, a bound on the worths of three that they and left - 2 others make
+abbrev pub sum_of_two : (ℕ → ℕ → ℕ → ℕ) → List ℕ → ℕ → (ℕ → ℕ → ℕ) → ℕ → ℕ → ℕ
+sum_of_two worth free left threshold i j =
+    threshold_sum (worth i j) (without_member (without_member free i) j) (left - 2) (threshold i j)
+
+-- for a free candidate, a bound on the sums of two that it and left - 1 others make
+abbrev pub sum_of_one : (ℕ → ℕ → ℕ) → List ℕ → ℕ → (ℕ → ℕ) → ℕ → ℕ
+sum_of_one sum free left threshold i =
+    threshold_sum (sum i) (without_member free i) (left - 1) (threshold i)
