@@ -1,5 +1,5 @@
--- The definitions of prices and of pairs, worked out by hand.
-use Rattle.std.proofs.Common.{◌≡◌, ◌/◌, zero, suc, [], ◌∷◌, refl, length, lit≤, arith}
+-- The definitions of prices, of pairs and of triples, worked out by hand.
+use Rattle.std.proofs.Common.{◌≡◌, ◌+◌, ◌*◌, ◌/◌, zero, suc, [], ◌∷◌, refl, length, lit≤, arith}
 use Rattle.thiele_bounds.specs.Pairs.{IsMajorant, all_constants, all_overlap, all_worth, pair_sum, row_sum, worth_beside}
 use Rattle.thiele_bounds.specs.Prices.{IsLinearMajorant}
 use Rattle.thiele_bounds.specs.Triples.{IsCubicMajorant, all_triples, sum_of_one, sum_of_pairs, sum_of_triples, sum_of_two, threshold_sum, worth_of_three}
