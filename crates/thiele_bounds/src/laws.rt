@@ -51,9 +51,9 @@ pub fn prices()
         ≤ unit * (all_constants constant rows + sum_by (all_worth multiplier rows) (common_members free committee)) }
 {}
 
-/// A cubic majorant for each row bounds what its voters give. Summed over the rows, no committee is worth more than what
-/// all voters keep, the worths of the added members and the triples of all ordered triples of different ones, less the
-/// overlaps of all ordered pairs of different ones. Any numbers that make majorants work.
+/// A cubic majorant for each row bounds what its voters give. Summed over the rows, no committee is worth more than
+/// what all voters keep, the worths of the added members and the triples of all ordered triples of different ones, less
+/// the overlaps of all ordered pairs of different ones. Any numbers that make majorants work.
 pub fn triples()
     ensures { (weights : List ℕ) (scale unit m : ℕ) (constant worth overlap triple : Row → ℕ) (rows : List Row)
         (set free : List ℕ) (left : ℕ) (committee : List ℕ) → AllByRecursion (λ row. IsIncreasing 1 m row.0) rows
@@ -66,8 +66,9 @@ pub fn triples()
         + sum_of_triples (all_triples triple rows) (common_members free committee)) }
 {}
 
-/// Row sums, one level deeper. The worth of three members has that of each, their triple and their overlaps. Any
-/// thresholds bound what a pair of members makes with the others, and what a member makes with them.
+/// Row sums, one level deeper, bound worths and triples less overlaps. The worth of three members has the worth of each,
+/// a multiple of their triple, less a multiple of their three overlaps, and is raised so that it is not below 0. Any
+/// thresholds bound what two members make with the others, and then what one member makes with them.
 pub fn triple_sums()
     ensures { (worth : ℕ → ℕ) (overlap : ℕ → ℕ → ℕ) (triple : ℕ → ℕ → ℕ → ℕ) (m left raise : ℕ) (third : ℕ → ℕ → ℕ)
         (second : ℕ → ℕ) (free members : List ℕ)

@@ -1,5 +1,5 @@
 -- Triples of members.
-use Rattle.std.proofs.Common.{◌≡◌, ℕ, zero, suc, ◌+◌, ◌-◌, ◌*◌, ◌≤◌, ◌==◌, ◌∙◌, Bool, true, false, not, cond, List, [], ◌∷◌, refl, sym, ap, arith, length, min, sum, sum_by, take}
+use Rattle.std.proofs.Common.{◌≡◌, ℕ, ◌+◌, ◌-◌, ◌*◌, ◌≤◌, ◌==◌, ◌∙◌, Bool, true, false, not, cond, List, [], ◌∷◌, refl, ap, arith, min, sum, sum_by, take}
 use Rattle.std.specs.List.{AllByRecursion}
 use Rattle.std.proofs.Math.Nat.{mul-le-mul_left}
 use Rattle.std.proofs.lemmas.List.Sums.{sum_by-cons}
@@ -12,7 +12,7 @@ use Rattle.tie_walk.specs.Values.{thiele_value}
 use Rattle.row_multipliers.specs.Completions.{IsNode, IsCompletion}
 use Rattle.thiele_bounds.specs.Pairs.{all_constants, all_worth, all_overlap}
 use Rattle.thiele_bounds.specs.Triples.{IsCubicMajorant, all_triples, sum_of_pairs, sum_of_triples}
-use Rattle.row_multipliers.proofs.CompletionLemmas.{added, added-increasing}
+use Rattle.row_multipliers.proofs.CompletionLemmas.{added-increasing}
 use Rattle.thiele_bounds.proofs.PairBounds.PairLemmas.{hits-few, hits-joined, hits-sum, overlap-cons, sum-apart, sum-equal, sum-more, worth-cons}
 
 -- how many members a ballot has
@@ -77,7 +77,7 @@ of-triples-more f g has more m xs up are =
         by false e count =
             let same : sum_of_pairs (g i) (without_member xs i) ≡ sum_of_pairs (f i) (without_member xs i) =
             sum-equal (λ j. sum_by (g i j) (without_member (without_member xs i) j)) (λ j. sum_by (f i j) (without_member (without_member xs i) j)) (without_member xs i)
-                (λ j is. sum-equal (g i j) (f i j) (without_member (without_member xs i) j) (λ l is'. omega (arith, are i j l ∙ ap (λ b. f i j l + part b (has j) (has l) more) e))) in
+            (λ j is. sum-equal (g i j) (f i j) (without_member (without_member xs i) j) (λ l is'. omega (arith, are i j l ∙ ap (λ b. f i j l + part b (has j) (has l) more) e))) in
             omega (arith, same)
 
 -- the triples of a row more

@@ -1,5 +1,5 @@
 -- Row sums, one level deeper: what sums over triples of members are bounded by.
-use Rattle.std.proofs.Common.{◌≡◌, ℕ, zero, suc, ◌+◌, ◌-◌, ◌*◌, ◌≤◌, ◌==◌, ◌&&◌, ◌∙◌, Bool, true, false, not, List, [], ◌∷◌, refl, sym, ap, arith, inl, inr, length, sum_by}
+use Rattle.std.proofs.Common.{◌≡◌, ℕ, suc, ◌+◌, ◌-◌, ◌*◌, ◌≤◌, ◌==◌, ◌&&◌, ◌∙◌, Bool, true, false, not, List, [], ◌∷◌, refl, sym, ap, arith, inl, inr, length, sum_by}
 use Rattle.std.proofs.lemmas.Bool.{cases_eq, eq-eqb, ne_eqb}
 use Rattle.std.proofs.lemmas.List.Sums.{sum_by-cons}
 use Rattle.ballot_base.specs.Lists.{IsIncreasing}
@@ -64,12 +64,12 @@ triples-step c third second m q members free up rises among size =
         let bound : ℕ → ℕ = λ j. threshold_sum (c i j) (without_member all j) q (third i j) in
         let each : (j : ℕ) → has_member some j ≡ true → sum_by (c i j) (without_member some j) ≤ bound j =
         λ j in_.
-          let count : length (without_member some j) ≡ q = omega (arith, size, size_rest, length-rest m j some some_up in_) in
-          omega (
-            arith,
-            step (c i j) (third i j) m (without_member some j) (without_member all j) (rest-rises m j some some_up) (rest-rises m j all all_up) (rest-among some all j inside),
-            ap (λ n. n * third i j) count,
-          ) in
+        let count : length (without_member some j) ≡ q = omega (arith, size, size_rest, length-rest m j some some_up in_) in
+        omega (
+          arith,
+          step (c i j) (third i j) m (without_member some j) (without_member all j) (rest-rises m j some some_up) (rest-rises m j all all_up) (rest-among some all j inside),
+          ap (λ n. n * third i j) count,
+        ) in
         let count : length some ≡ q + 1 = omega (arith, size, size_rest) in
         omega (
           arith,
@@ -124,7 +124,7 @@ module _ (worth : ℕ → ℕ) (overlap : ℕ → ℕ → ℕ) (triple c : ℕ �
   rests-same : (i j : ℕ) → without_member (rest i) j ≡ without_member (rest j) i
   rests-same i j = same_increasing 1 m (without_member (rest i) j) (without_member (rest j) i) (rest-rises m j (rest i) (rest-rises m i members up)) (rest-rises m i (rest j) (rest-rises m j members up))
       (λ n. member-without (rest i) j n ∙ ap (λ b. not (n == j) && b) (member-without members i n) ∙ turned (not (n == j)) (not (n == i)) (has_member members n)
-        ∙ sym (member-without (rest j) i n ∙ ap (λ b. not (n == i) && b) (member-without members j n)))
+      ∙ sym (member-without (rest j) i n ∙ ap (λ b. not (n == i) && b) (member-without members j n)))
     where
       turned : (p r s : Bool) → (p && (r && s)) ≡ (r && (p && s))
       turned true true s = refl
@@ -144,8 +144,8 @@ module _ (worth : ℕ → ℕ) (overlap : ℕ → ℕ → ℕ) (triple c : ℕ �
       let other : has_member (rest j) i ≡ true = turned-member in
       let point : (l : ℕ) → has_member others l ≡ true → c i j l + (q + 1) * overlap j l + (q + 1) * overlap i l + 0 * worth l + (q + 1) * overlap i j ≡ 0 * overlap i l + 1 * worth l + e * triple i j l + (worth i + worth j + raise) =
       λ l in_.
-        let split : (k x y z : ℕ) → k * (x + y + z) ≡ k * x + k * y + k * z = λ k x y z. omega arith in
-        omega (arith, three i j l here inside (rest-within members i l (rest-within (rest i) j l in_)), split (q + 1) (overlap i j) (overlap i l) (overlap j l)) in
+      let split : (k x y z : ℕ) → k * (x + y + z) ≡ k * x + k * y + k * z = λ k x y z. omega arith in
+      omega (arith, three i j l here inside (rest-within members i l (rest-within (rest i) j l in_)), split (q + 1) (overlap i j) (overlap i l) (overlap j l)) in
       let all = affine (c i j) (overlap j) (overlap i) worth (triple i j) (q + 1) (q + 1) 0 ((q + 1) * overlap i j) 0 1 e (worth i + worth j + raise) others point in
       let split : (k x y : ℕ) → k * (x + y) ≡ k * x + k * y = λ k x y. omega arith in
       let mine : own i ≡ overlap i j + sum_by (overlap i) others = sum-apart (overlap i) m 1 j (rest i) some_up there in

@@ -14,7 +14,7 @@ abbrev pub BoundNode : HitSums → Election → Node → ℕ → List ℕ → Li
 BoundNode given election node constant worths table = (weights : List ℕ)
     → AreSums weights given.scale given.unit given.sums
     → AreTotals weights given.scale given.unit election.m election.rows node.set node.free node.left constant worths
-      table
+    table
 
 -- under each rule with these sums, the answer is right at a node
 abbrev pub NarrowsUnder : HitSums → Election → Node → ℕ → Option (List ℕ) → Type 0
