@@ -66,8 +66,8 @@ pub fn triples()
         + sum_of_triples (all_triples triple rows) (common_members free committee)) }
 {}
 
-/// Row sums, one level deeper, bound worths and triples less overlaps. The worth of three members has the worth of each,
-/// a multiple of their triple, less a multiple of their three overlaps, and is raised so that it is not below 0. Any
+/// Row sums, one level deeper, bound worths and triples less overlaps. The worth of three members has the worth of each
+/// and a multiple of their triple, less a multiple of their overlaps, and is raised so that it is not below 0. Any
 /// thresholds bound what two members make with the others, and then what one member makes with them.
 pub fn triple_sums()
     ensures { (worth : ℕ → ℕ) (overlap : ℕ → ℕ → ℕ) (triple : ℕ → ℕ → ℕ → ℕ) (m left raise : ℕ) (third : ℕ → ℕ → ℕ)
