@@ -1,7 +1,8 @@
--- The definitions of prices and of pairs, worked out by hand.
-use Rattle.std.proofs.Common.{◌≡◌, ◌/◌, zero, suc, [], ◌∷◌, refl, length, lit≤, arith}
+-- The definitions of prices, of pairs and of triples, worked out by hand.
+use Rattle.std.proofs.Common.{◌≡◌, ◌+◌, ◌*◌, ◌/◌, zero, suc, [], ◌∷◌, refl, length, lit≤, arith}
 use Rattle.thiele_bounds.specs.Pairs.{IsMajorant, all_constants, all_overlap, all_worth, pair_sum, row_sum, worth_beside}
 use Rattle.thiele_bounds.specs.Prices.{IsLinearMajorant}
+use Rattle.thiele_bounds.specs.Triples.{IsCubicMajorant, all_triples, sum_of_one, sum_of_pairs, sum_of_triples, sum_of_two, threshold_sum, worth_of_three}
 
 -- ---- prices: under proportional approval voting, in sixths, a voter gives 6 for a hit, 3 more for a second and 2 more
 -- for a third, and each hit costs 4
@@ -60,3 +61,43 @@ beside-two = refl
 -- 24 for the candidate itself, the threshold 22 for one of the others, and 2 that each of the two is above it
 sum-row : row_sum (λ n. 20) (λ i j. 3) (1 ∷ 2 ∷ 3 ∷ []) 2 10 22 1 ≡ 50
 sum-row = refl
+
+-- ---- three members: under proportional approval voting, in twelfths, a voter gives 12, 18 and 22 for one, two and three
+-- hits, and 25 for four
+
+-- 12 h - 3 h (h - 1) + h (h - 1) (h - 2) is 12 and 18 at one hit and at two, 24 at three, and 36 at four
+cubic-four : IsCubicMajorant (12 ∷ 6 ∷ 4 ∷ 3 ∷ []) 1 1 0 4 0 12 3 1
+cubic-four zero few = lit≤ tt
+cubic-four (suc zero) few = lit≤ tt
+cubic-four (suc (suc zero)) few = lit≤ tt
+cubic-four (suc (suc (suc zero))) few = lit≤ tt
+cubic-four (suc (suc (suc (suc zero)))) few = lit≤ tt
+cubic-four (suc (suc (suc (suc (suc h))))) few = absurd (omega (arith, few))
+
+-- two voters approve 1, 2 and 3, with the triple 5, and one voter approves 2 and 3
+triples-three : all_triples (λ row. 5) ((1 ∷ 2 ∷ 3 ∷ [], 2) ∷ (2 ∷ 3 ∷ [], 1) ∷ []) 1 2 3 ≡ 10
+triples-three = refl
+
+-- 12 and 21, 13 and 31, 23 and 32
+pairs-different : sum_of_pairs (λ i j. 10 * i + j) (1 ∷ 2 ∷ 3 ∷ []) ≡ 132
+pairs-different = refl
+
+-- 123, 132, 213, 231, 312 and 321
+triples-different : sum_of_triples (λ i j l. 100 * i + 10 * j + l) (1 ∷ 2 ∷ 3 ∷ []) ≡ 1332
+triples-different = refl
+
+-- twice the threshold 22, and the excesses 2 and 8 of 24 and 30 over it
+sum-threshold : threshold_sum (λ n. 6 * n) (2 ∷ 3 ∷ 4 ∷ 5 ∷ []) 2 22 ≡ 54
+sum-threshold = refl
+
+-- with three seats left, three worths of 20, six times the triple 2 and the raise 10, less twice the three overlaps of 3
+worth-three : worth_of_three (λ n. 20) (λ i j. 3) (λ i j l. 2) 3 10 1 2 3 ≡ 64
+worth-three = refl
+
+-- with three seats left, one other candidate joins 1 and 2: the threshold 4, and 1 that 5 exceeds it
+sum-two : sum_of_two (λ i j l. l) (1 ∷ 2 ∷ 3 ∷ 4 ∷ 5 ∷ []) 3 (λ i j. 4) 1 2 ≡ 5
+sum-two = refl
+
+-- two others join 1: twice the threshold 3, and 1 and 2 that 4 and 5 exceed it
+sum-one : sum_of_one (λ i j. j) (1 ∷ 2 ∷ 3 ∷ 4 ∷ 5 ∷ []) 3 (λ i. 3) 1 ≡ 9
+sum-one = refl

@@ -5,3 +5,5 @@ pub mod PairLemmas
 pub mod PairNodes
 pub mod PairTotals
 pub mod SumLemmas
+pub mod TripleLemmas
+pub mod TripleSums

@@ -1,3 +1,4 @@
 pub mod Pairs
 pub mod Prices
 pub mod Steps
+pub mod Triples

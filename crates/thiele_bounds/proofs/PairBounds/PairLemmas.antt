@@ -16,7 +16,7 @@ use Rattle.row_multipliers.proofs.CompletionLemmas.{added, added-free, added-inc
 use Rattle.row_multipliers.proofs.HitLemmas.{hits-append, hits-more, hits-turned}
 use Rattle.row_multipliers.proofs.SearchLemmas.{sum-among, sum-threshold}
 
-or-true : (p q : Bool) → q ≡ true → (p || q) ≡ true
+pub or-true : (p q : Bool) → q ≡ true → (p || q) ≡ true
 or-true true q h = refl
 or-true false q h = h
 
@@ -79,7 +79,7 @@ pairs-more f g has more xs are =
 -- ---- row sums
 
 -- a sum over a member and the others
-sum-apart : (f : ℕ → ℕ) (last first n : ℕ) (xs : List ℕ) → IsIncreasing first last xs → has_member xs n ≡ true → sum_by f xs ≡ f n + sum_by f (without_member xs n)
+pub sum-apart : (f : ℕ → ℕ) (last first n : ℕ) (xs : List ℕ) → IsIncreasing first last xs → has_member xs n ≡ true → sum_by f xs ≡ f n + sum_by f (without_member xs n)
 sum-apart f last first n [] up here = absurd cc
 sum-apart f last first n (x ∷ xs) up here = elim (cases_eq x n) [
   | inl same ↦
@@ -194,14 +194,14 @@ module _ (worth : ℕ → ℕ) (overlap : ℕ → ℕ → ℕ) (m : ℕ) (free m
 -- ---- pairs
 
 -- a row more
-worth-cons : (f : Row → ℕ) (row : Row) (rows : List Row) (n : ℕ) → all_worth f (row ∷ rows) n ≡ all_worth f rows n + cond (has_member row.0 n) (row.1 * f row) 0
+pub worth-cons : (f : Row → ℕ) (row : Row) (rows : List Row) (n : ℕ) → all_worth f (row ∷ rows) n ≡ all_worth f rows n + cond (has_member row.0 n) (row.1 * f row) 0
 worth-cons f row rows n = by (has_member row.0 n)
   where
     by : (b : Bool) → sum_by (λ (r : Row). r.1 * f r) (cond b (row ∷ supporters rows n) (supporters rows n)) ≡ all_worth f rows n + cond b (row.1 * f row) 0
     by true = omega (arith, sum_by-cons (λ (r : Row). r.1 * f r) row (supporters rows n))
     by false = omega arith
 
-overlap-cons : (f : Row → ℕ) (row : Row) (rows : List Row) (i j : ℕ)
+pub overlap-cons : (f : Row → ℕ) (row : Row) (rows : List Row) (i j : ℕ)
     → all_overlap f (row ∷ rows) i j ≡ all_overlap f rows i j + cond (has_member row.0 i) (cond (has_member row.0 j) (row.1 * f row) 0) 0
 overlap-cons f row rows i j = by (has_member row.0 i)
   where
