@@ -198,7 +198,9 @@ impl<'a, A: Allocator + Copy> Families<'a, A> {
         ensures { result ≡ some_winner self.now c set (self.now.k - length set) }
     {
         let mut dead = self.dead.take();
-        if let Some(sets) = &mut dead {
+        if let Some(sets) = &mut dead
+            && !sets.is_empty()
+        {
             sets.clear();
         }
         let question = Question {
