@@ -267,3 +267,12 @@ fn bury<A: Allocator + Copy>(dead: &mut Option<FoundSets<A>>, set: CandSet)
         Err(_) => sets.clear(),
     }
 }
+
+/// Forgets all sets. To clear a table takes as long as its room is large, so an empty one is left.
+pub(crate) fn forget<A: Allocator + Copy>(sets: &mut FoundSets<A>)
+    ensures { sets.new.keys ≡ [] }
+{
+    if !sets.is_empty() {
+        sets.clear();
+    }
+}
