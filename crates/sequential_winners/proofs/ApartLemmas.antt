@@ -1,5 +1,5 @@
 -- Tied candidates, no two of whom share a voter whose next hit adds something, as the code gathers them.
-use Rattle.std.proofs.Common.{◌≡◌, ℕ, ◌==◌, ◌||◌, ◌&&◌, ◌∙◌, Bool, true, false, not, List, [], ◌∷◌, refl, filter, sym, ap, subst, inl, inr}
+use Rattle.std.proofs.Common.{◌≡◌, ℕ, ◌==◌, ◌||◌, ◌&&◌, ◌∙◌, true, false, not, List, [], ◌∷◌, refl, filter, sym, ap, subst, inl, inr}
 use Rattle.std.proofs.lemmas.Bool.{cases_Bool, and_parts, and_from, both_ways, not-true}
 use Rattle.std.proofs.Math.Bool.{and_comm}
 use Rattle.std.specs.Prelude.{nat_lt}
@@ -31,13 +31,15 @@ module _ (step : Step) (weights : List ℕ) (rows : List Row) (set : List ℕ) w
       → has_member (other_members rest near) n ≡ true → (has_member rest n ≡ true) × (share_voter step weights rows set next n ≡ false)
   far-left rest tied next n near is within inside =
       let parts = and_parts (not (has_member near n)) (has_member rest n) (sym (has_member-filter (λ x. not (has_member near x)) rest n) ∙ inside) in
-      let out = not-true (has_member near n) parts.0 in
-      (parts.1, elim (cases_Bool (is_near step weights rows set next n)) [
-        | inl close ↦
-            absurd (both_ways (has_member near n) out
-            (ap (λ l. has_member l n) is ∙ has_member-filter (is_near step weights rows set next) tied n ∙ and_from (is_near step weights rows set next n) (has_member tied n) close (within n parts.1)))
-        | inr far ↦ (or-parts (n == next) (share_voter step weights rows set next n) far).1
-      ])
+      let out = not-true (has_member near n) parts.0 in (
+        parts.1,
+        elim (cases_Bool (is_near step weights rows set next n)) [
+          | inl close ↦
+              absurd (both_ways (has_member near n) out
+              (ap (λ l. has_member l n) is ∙ has_member-filter (is_near step weights rows set next) tied n ∙ and_from (is_near step weights rows set next n) (has_member tied n) close (within n parts.1)))
+          | inr far ↦ (or-parts (n == next) (share_voter step weights rows set next n) far).1
+        ],
+      )
 
   -- one more who shares no voter with any of them
   pub apart-joined : (m : ℕ) (together : List ℕ) → AreApart step weights m rows set together → (next : ℕ) → has_member (ties step weights m rows set) next ≡ true

@@ -25,7 +25,7 @@ use Rattle.sequential_winners.proofs.RowLemmas.{each-row, no-better_given, worse
 use Rattle.sequential_winners.proofs.TiedClones.{no_better-joined, no-better-ahead, open-moves, choice-from, choice-best, choice-open}
 use Rattle.std.proofs.Math.Bool.{and_comm}
 use Rattle.ballot_base.proofs.Committees.{length-increasing}
-use Rattle.sequential_winners.proofs.SpanLemmas.{tied-increasing, tied-is, tied-open, at-most, tied-class, tied-reaches, tied-positive, changed-all}
+use Rattle.sequential_winners.proofs.SpanLemmas.{tied-is, tied-open, at-most, tied-class, tied-reaches, tied-positive, changed-all}
 use Rattle.sequential_winners.proofs.Leads.{leads-moved, leads-joined, may-leads}
 use Rattle.sequential_winners.proofs.GivenLemmas.{or-parts, not-equal, apart-given}
 

@@ -118,7 +118,9 @@ impl<A: Allocator + Copy + Drop> Question<'_, '_, A> {
         let total = rule.choices(profile.m(), self.k);
         let left = total.saturating_sub(rule.choices(profile.m(), from.len()));
         if best > 0 && left <= ties.len() {
-            let apart = self.levels.apart(from, ties, ties.common(self.allowed()), left);
+            let apart = self
+                .levels
+                .apart(from, ties, ties.common(self.allowed()), left);
             if self.has_between(from, self.after_all(from, apart)) {
                 return None;
             }
@@ -146,7 +148,10 @@ impl<A: Allocator + Copy + Drop> Question<'_, '_, A> {
     {
         let needed = match self.levels.choices.rule.step() {
             Step::Grow => ties.common(self.set),
-            Step::Shrink => ties.minus(self.set.union(CandSet::after(self.c, self.levels.choices.profile.m()))),
+            Step::Shrink => ties.minus(
+                self.set
+                    .union(CandSet::after(self.c, self.levels.choices.profile.m())),
+            ),
         };
         let (next, _) = needed.split_first()?;
         if !ties.has(next) || self.has_between(from, self.after_all(from, ties.without(next))) {

@@ -1,12 +1,7 @@
-use Rattle.std.proofs.Common.{◌≡◌, ◌-◌, ◌∙◌, Some, None, sym, ap, subst, arith, length}
-use Rattle.tie_walk.specs.Sequences.{hit_weights}
-use Rattle.tie_walk.specs.Steps.Choices.{step_of, choices_of}
-use Rattle.sequential_winners.specs.Steps.Levels.{chosen, ties_by, beginners_by, end_by}
-use Rattle.ballot_base.specs.Limits.{most_candidates}
-use Rattle.ballot_base.specs.Lists.{IsIncreasing}
-use Rattle.ballot_base.proofs.Increasing.{IsIncreasing-higher}
-use Rattle.sequential_winners.proofs.SpanLemmas.{tied-increasing}
-use Rattle.sequential_winners.proofs.WinnerLemmas.{set-size, end-size}
+use Rattle.std.proofs.Common.{◌≡◌, ◌∙◌, Some, sym, ap, arith, length}
+use Rattle.tie_walk.specs.Steps.Choices.{choices_of}
+use Rattle.sequential_winners.specs.Steps.Levels.{end_by}
+use Rattle.sequential_winners.proofs.WinnerLemmas.{end-size}
 use Rattle.sequential_winners.proofs.levels.Levels.ahead.Goals as goal
 
 pub choices-requires : goal.choices-requires

@@ -1,8 +1,7 @@
-use Rattle.std.proofs.Common.{◌≡◌, ℕ, ◌∙◌, ◌==◌, ◌||◌, ◌&&◌, Bool, true, false, not, sym, ap, subst, inl, inr}
-use Rattle.std.proofs.lemmas.Bool.{and_parts, both_ways}
-use Rattle.ballot_base.specs.CandSet.{has_member, with_member, other_members}
+use Rattle.std.proofs.Common.{◌≡◌, ℕ, true, false, sym, subst}
+use Rattle.ballot_base.specs.CandSet.{has_member, other_members}
 use Rattle.ballot_base.specs.Limits.{most_candidates}
-use Rattle.ballot_base.proofs.Increasing.{has_member-filter, has_member_head}
+use Rattle.ballot_base.proofs.Increasing.{has_member_head}
 use Rattle.tie_walk.specs.Sequences.{hit_weights}
 use Rattle.tie_walk.specs.Steps.Choices.{step_of}
 use Rattle.tie_walk.proofs.LevelLemmas.{in_bounds}

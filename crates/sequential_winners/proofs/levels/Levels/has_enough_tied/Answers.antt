@@ -1,8 +1,8 @@
-use Rattle.std.proofs.Common.{◌≡◌, ℕ, ◌∙◌, ◌-◌, ◌*◌, ◌<◌, ◌==◌, ◌∷◌, true, false, length, sym, ap, subst, arith, inl, inr}
+use Rattle.std.proofs.Common.{◌≡◌, ℕ, ◌∙◌, ◌-◌, ◌*◌, ◌<◌, ◌==◌, true, length, sym, ap, subst, arith, inl, inr}
 use Rattle.std.proofs.lemmas.Bool.{cases_eq, or_right}
 use Rattle.ballot_base.specs.CandSet.{has_member}
 use Rattle.ballot_base.specs.Limits.{most_candidates}
-use Rattle.ballot_base.proofs.Increasing.{has_member_head, has_member_tail}
+use Rattle.ballot_base.proofs.Increasing.{has_member_tail}
 use Rattle.ballot_base.proofs.Passed.{rest-up}
 use Rattle.sequential_winners.specs.Steps.Levels.{near_by}
 use Rattle.sequential_winners.proofs.levels.Levels.has_enough_tied.Goals as goal

@@ -7,11 +7,11 @@ use Rattle.ballot_base.specs.Ballots.{Election}
 use Rattle.tie_walk.specs.Sequences.{hit_weights}
 use Rattle.tie_walk.specs.Steps.Choices.{step_of, choices_of, change, open_candidates}
 use Rattle.sequential_winners.specs.Steps.Families.{may_be_in}
-use Rattle.sequential_winners.specs.Steps.Levels.{chosen, beginners_by}
-use Rattle.sequential_winners.specs.Steps.Questions.{family_of, finish, IsLive, IsDead}
+use Rattle.sequential_winners.specs.Steps.Levels.{chosen}
+use Rattle.sequential_winners.specs.Steps.Questions.{family_of, finish, IsDead}
 use Rattle.sequential_winners.proofs.Lists.{open-is}
 use Rattle.sequential_winners.proofs.Picked.{change-increasing, chosen-change}
-use Rattle.sequential_winners.proofs.QuestionLemmas.{finish-increasing, total-fits, none-dead, whole-live, between-live, between-dead, choices-left, buried, without-is, without-shorter, without-one, begins-open, last-live, last-dead, begun-live, begun-dead}
+use Rattle.sequential_winners.proofs.QuestionLemmas.{finish-increasing, total-fits, none-dead, whole-live, between-live, between-dead, choices-left, buried, without-is, without-shorter, without-one, last-live, last-dead}
 use Rattle.sequential_winners.proofs.SpanLemmas.{end-span}
 use Rattle.sequential_winners.proofs.WinnerLemmas.{hit_weights-fall}
 use Rattle.sequential_winners.proofs.question.Question.+leads.Goals as goal

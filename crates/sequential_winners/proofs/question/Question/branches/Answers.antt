@@ -1,10 +1,9 @@
-use Rattle.std.proofs.Common.{◌≡◌, ℕ, ◌-◌, ◌<◌, ◌∙◌, ◌&&◌, true, false, None, filter, sym, ap, subst, arith, length}
+use Rattle.std.proofs.Common.{◌≡◌, ◌-◌, ◌<◌, ◌∙◌, true, false, sym, ap, subst, arith, length}
 use Rattle.std.proofs.lemmas.Bool.{and_parts}
 use Rattle.ballot_base.specs.CandSet.{has_member, with_member, without_member}
 use Rattle.ballot_base.specs.Limits.{most_candidates}
 use Rattle.ballot_base.specs.Lists.{IsIncreasing}
 use Rattle.ballot_base.proofs.Increasing.{IsIncreasing-higher, has_member-filter}
-use Rattle.ballot_base.proofs.Passed.{filter-member}
 use Rattle.tie_walk.specs.Sequences.{hit_weights}
 use Rattle.tie_walk.specs.Steps.Choices.{step_of, choices_of, change}
 use Rattle.std.specs.Prelude.{fold}

@@ -1,5 +1,5 @@
-use Rattle.std.proofs.Common.{◌∙◌, sym, ap, subst}
-use Rattle.ballot_base.specs.CandSet.{has_member, without_member}
+use Rattle.std.proofs.Common.{◌∙◌, ap}
+use Rattle.ballot_base.specs.CandSet.{without_member}
 use Rattle.sequential_winners.proofs.BranchLemmas.{after-increasing, without-tied}
 use Rattle.sequential_winners.proofs.question.Question.needed.Goals as goal
 
