@@ -1,3 +1,5 @@
+pub mod ApartLemmas
+pub mod BranchLemmas
 pub mod CloneLemmas
 pub mod CompletionLemmas
 mod Examples

@@ -90,6 +90,17 @@ members-of m set up =
 pub count-others : (p : ℕ → Bool) (m : ℕ) (set : List ℕ) → IsIncreasing 1 m set → count_by p set + count_by p (others m set) ≡ count_by p (range_with_len 1 m)
 count-others p m set up = omega (arith, count-parts p (has_member set) (range_with_len 1 m), ap (count_by p) (members-of m set up))
 
+-- of a set whose members another one has
+pub count-included : (p : ℕ → Bool) (m : ℕ) (set other : List ℕ) → IsIncreasing 1 m set → IsIncreasing 1 m other → ((c : ℕ) → has_member set c ≡ true → has_member other c ≡ true) → count_by p set ≤ count_by p other
+count-included p m set other up up' within =
+    let same : filter (has_member set) other ≡ set =
+    same_increasing 1 m (filter (has_member set) other) set (IsIncreasing-filter (has_member set) 1 m other up') up (λ n. has_member-filter (has_member set) other n ∙ both (has_member set n) (has_member other n) (within n)) in
+    omega (arith, count-parts p (has_member set) other, ap (count_by p) same)
+  where
+    both : (a b : Bool) → (a ≡ true → b ≡ true) → (a && b) ≡ a
+    both true b within' = within' refl
+    both false b within' = refl
+
 pub open-is : (step : Step) (m : ℕ) (set : List ℕ) (c : ℕ) → has_member (open_candidates step m set) c ≡ true → ((1 ≤ c) × (c ≤ m)) × (may_choose step set c ≡ true)
 open-is step m set c inside =
     let parts = and_parts (may_choose step set c) (has_member (range_with_len 1 m) c) (sym (has_member-filter (may_choose step set) (range_with_len 1 m) c) ∙ inside) in

@@ -1,10 +1,11 @@
 -- Lists of candidates of several classes: how many there are of each class decides every sum in which the candidates of
 -- a class count alike.
 use Rattle.std.proofs.lemmas.Grind.{common_steps}
-use Rattle.std.proofs.Common.{◌≡◌, ℕ, ◌+◌, ◌<◌, ◌≤◌, ◌==◌, ◌&&◌, ◌∙◌, Bool, true, false, cond, not, List, [], ◌∷◌, ◌++◌, refl, sym, ap, subst, arith, inl, inr, filter, length, sum_by, count_by}
-use Rattle.std.specs.List.{list_all}
+use Rattle.std.proofs.Common.{◌≡◌, ℕ, ◌+◌, ◌<◌, ◌≤◌, ◌==◌, ◌&&◌, ◌||◌, ◌*◌, ◌∙◌, Bool, true, false, cond, not, List, [], ◌∷◌, ◌++◌, refl, sym, ap, subst, arith, inl, inr, filter, length, sum_by, count_by}
+use Rattle.std.specs.List.{list_all, list_any}
 use Rattle.std.specs.Prelude.{nat_le}
-use Rattle.std.proofs.lemmas.Bool.{cases_Bool, cases_lt, cases_eq, cases_order, both_ways, ne_eqb, or_right, leb-true, leb-false}
+use Rattle.std.proofs.lemmas.Bool.{cases_Bool, cases_lt, cases_eq, cases_order, both_ways, ne_eqb, or_right, leb-true, leb-false, not-true}
+use Rattle.std.proofs.Math.Nat.{mul-le-mul_left, mul-le-mul_right}
 use Rattle.std.proofs.lemmas.List.Filters.{length-filter_both, sum_by-filter_both}
 use Rattle.std.proofs.lemmas.List.Sums.{sum_by-cons, sum_by-append, length-filter}
 use Rattle.ballot_base.specs.Lists.{IsIncreasing}
@@ -176,4 +177,75 @@ module _ (same : ℕ → ℕ → Bool) (sameness : IsSameness same) where
             ] in
             absurd (omega (arith, longer, length-within ys xs within))
         | inr some ↦ let y = some-fails test ys some in (y.0, y.1, leb-false (count_by (same y.0) ys) (count_by (same y.0) xs) y.2)
+      ]
+
+-- ---- those that pass one of several tests
+
+count-either : (p q : ℕ → Bool) (xs : List ℕ) → count_by (λ x. p x || q x) xs ≤ count_by p xs + count_by q xs
+count-either p q [] = omega arith
+count-either p q (x ∷ xs) =
+    omega (arith, count-cons (λ y. p y || q y) x xs, count-cons p x xs, count-cons q x xs, one (p x) (q x), count-either p q xs)
+  where
+    one : (a b : Bool) → bit (a || b) ≤ bit a + bit b
+    one true b = omega arith
+    one false b = omega arith
+
+module _ (near : ℕ → ℕ → Bool) (tied : List ℕ) where
+  abbrev covered : List ℕ → ℕ → Bool
+  covered xs t = list_any (λ s. near s t) xs
+
+  abbrev nears : List ℕ → ℕ
+  nears xs = sum_by (λ s. count_by (near s) tied) xs
+
+  nobody : (ts : List ℕ) → count_by (λ (t : ℕ). false) ts ≡ 0
+  nobody [] = refl
+  nobody (t ∷ ts) = omega (arith, count-cons (λ (y : ℕ). false) t ts, nobody ts)
+
+  covered-most : (xs : List ℕ) → count_by (covered xs) tied ≤ nears xs
+  covered-most [] = omega (arith, nobody tied)
+  covered-most (x ∷ xs) = omega (arith, sum_by-cons (λ s. count_by (near s) tied) x xs, count-either (near x) (covered xs) tied, covered-most xs)
+
+  nears-most : (n : ℕ) (xs : List ℕ) → ((s : ℕ) → has_member xs s ≡ true → n * count_by (near s) tied < length tied) → n * nears xs + length xs ≤ length xs * length tied
+  nears-most n [] each = let e : n * 0 ≡ 0 = grind arith in omega (arith, e)
+  nears-most n (x ∷ xs) each =
+      let here : n * count_by (near x) tied < length tied = each x (has_member_head x xs) in
+      let rest = nears-most n xs (λ s inside. each s (or_right (x == s) (has_member xs s) inside)) in
+      let e : n * nears (x ∷ xs) ≡ n * count_by (near x) tied + n * nears xs = ap (λ i. n * i) (sum_by-cons (λ s. count_by (near s) tied) x xs) ∙ times-sum n (count_by (near x) tied) (nears xs) in
+      let f : length (x ∷ xs) * length tied ≡ length tied + length xs * length tied = omega arith in
+      omega (arith, here, rest, e, f)
+    where
+      times-sum : (a b c : ℕ) → a * (b + c) ≡ a * b + a * c
+      times-sum a b c = grind arith
+
+  -- of more candidates than `n` others are near, some one is near none of the others
+  pub some-uncovered : (n : ℕ) (xs : List ℕ) → length xs ≤ n → 0 < length tied → ((s : ℕ) → has_member xs s ≡ true → n * count_by (near s) tied < length tied)
+      → (t : ℕ) × (has_member tied t ≡ true) × ((s : ℕ) → has_member xs s ≡ true → near s t ≡ false)
+  some-uncovered n xs few some each =
+      let t = some-passes (λ y. not (covered xs y)) tied (omega (arith, count-both (covered xs) tied, covered-most xs, short)) in
+      (t.0, t.1, λ s inside. none xs t.0 (not-true (covered xs t.0) t.2) s inside)
+    where
+      short : nears xs < length tied
+      short = elim (cases_lt (nears xs) (length tied)) [
+        | inl less ↦ less
+        | inr most ↦
+            let a : n * length tied ≤ n * nears xs = mul-le-mul_left n most in
+            let b : length xs * length tied ≤ n * length tied = mul-le-mul_right (length tied) few in
+            let none-there = nobody-there xs (omega (arith, a, b, nears-most n xs each)) in
+            absurd (omega (arith, most, some, ap nears none-there))
+      ]
+        where
+          nobody-there : (ys : List ℕ) → length ys ≤ 0 → ys ≡ []
+          nobody-there [] none = refl
+          nobody-there (y ∷ ys) none = absurd (omega (arith, none))
+
+      or-fails : (a b : Bool) → (a || b) ≡ false → (a ≡ false) × (b ≡ false)
+      or-fails false false is = (refl, refl)
+      or-fails false true is = absurd (let f : true ≡ false = is in cc)
+      or-fails true b is = absurd (let f : true ≡ false = is in cc)
+
+      none : (ys : List ℕ) (t : ℕ) → covered ys t ≡ false → (s : ℕ) → has_member ys s ≡ true → near s t ≡ false
+      none [] t fails s inside = absurd (let e : false ≡ true = inside in cc)
+      none (y ∷ ys) t fails s inside = elim (cases_eq y s) [
+        | inl same ↦ subst (λ z. near z t ≡ false) same (or-fails (near y t) (covered ys t) fails).0
+        | inr other ↦ none ys t (or-fails (near y t) (covered ys t) fails).1 s (sym (has_member_tail y s ys other) ∙ inside)
       ]

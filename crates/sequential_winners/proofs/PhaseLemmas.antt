@@ -3,7 +3,7 @@ use Rattle.std.proofs.Common.{◌≡◌, ℕ, zero, suc, ◌+◌, ◌-◌, ◌*�
 use Rattle.std.specs.Prelude.{nat_lt, fold}
 use Rattle.std.specs.List.{AllByRecursion, list_any}
 use Rattle.std.proofs.lemmas.Bool.{cases_Bool, cases_lt, and_parts, and_from, both_ways, eqb-true, ltb-true, lt-ltb}
-use Rattle.std.proofs.lemmas.List.Sums.{sum_by-cons}
+use Rattle.std.proofs.lemmas.List.Sums.{sum_by-cons, length-filter}
 use Rattle.ballot_base.specs.Lists.{IsIncreasing}
 use Rattle.ballot_base.specs.CandSet.{has_member, with_member, without_member, other_members}
 use Rattle.ballot_base.specs.Ballots.{Row, hits}
@@ -16,10 +16,10 @@ use Rattle.tie_walk.specs.declared.sequential.Step.TheVariants.{Grow, Shrink}
 use Rattle.tie_walk.proofs.RowSums.{AreBallots}
 use Rattle.tie_walk.proofs.WorthLemmas.{share, partial, worth-whole}
 use Rattle.sequential_winners.specs.Clones.{clone_count}
-use Rattle.sequential_winners.specs.Steps.Levels.{ties, next_hit, given, share_voter, picked, tied_worth, IsAhead, IsFalling, AllCount, LeadsTo}
+use Rattle.sequential_winners.specs.Steps.Levels.{ties, next_hit, given, share_voter, picked, chosen, tied_worth, IsAhead, IsFalling, AllCount, LeadsTo}
 use Rattle.sequential_winners.proofs.CloneLemmas.{IsWhole, clones-itself, clones-turned, clones-joined, clones-sameness, hits-members}
-use Rattle.sequential_winners.proofs.Lists.{open-is, member-without, with-increasing}
-use Rattle.sequential_winners.proofs.Numbers.{bit, some-passes, member-counts, count-cons, count-class, count-with, count-without, length-sum, count-both}
+use Rattle.sequential_winners.proofs.Lists.{open-is, member-without, with-increasing, count-included}
+use Rattle.sequential_winners.proofs.Numbers.{bit, some-uncovered, some-passes, member-counts, count-cons, count-class, count-with, count-without, length-sum, count-both}
 use Rattle.sequential_winners.proofs.Picked.{count-open, change-increasing, count-change, chosen-change}
 use Rattle.sequential_winners.proofs.RowLemmas.{each-row, no-better_given, worse-shared, falling_share, IsQuiet}
 use Rattle.sequential_winners.proofs.TiedClones.{no_better-joined, no-better-ahead, open-moves, choice-from, choice-best, choice-open}
@@ -38,7 +38,7 @@ none-each P test (row ∷ rows) none = (
   none-each P test rows (λ s here. (or-parts (test s row) (list_any (test s) rows) (none s here)).1),
 )
 
-member-with : (set : List ℕ) (n k : ℕ) → has_member (with_member set n) k ≡ true → (n ≡ k) ⊎ (has_member set k ≡ true)
+pub member-with : (set : List ℕ) (n k : ℕ) → has_member (with_member set n) k ≡ true → (n ≡ k) ⊎ (has_member set k ≡ true)
 member-with set n k is = by (n == k) refl (sym (has_member-with_member set n k) ∙ is)
   where
     by : (b : Bool) → (n == k) ≡ b → (b || has_member set k) ≡ true → (n ≡ k) ⊎ (has_member set k ≡ true)
@@ -370,3 +370,61 @@ module _ (step : Step) (weights : List ℕ) (m : ℕ) (rows : List Row) (ballots
       begins-near leads =
           walk total [] set (record { increasing = tt; tied = λ t inside. absurd (let f : false ≡ true = inside in cc); apart = λ c d inside. absurd (let f : false ≡ true = inside in cc) }) (λ s inside. absurd (let f : false ≡ true = inside in cc))
           (omega arith) up (λ x. omega arith) leads
+
+    -- ---- candidates apart, and ties that last
+
+    -- each set between the set and that with candidates apart is made by choices among them
+    pub apart-leads : (together : List ℕ) → IsApart together → (made : List ℕ) → IsIncreasing 1 m made → IsAhead step m rows set made → IsAhead step m rows made (with-all together) → (n : ℕ) → chosen step m made ≡ chosen step m set + n
+        → LeadsTo step weights m rows made n set
+    apart-leads together is made up' ahead until n sized =
+        let all = with-is together is in
+        may-leads step weights m rows ballots falls set (with-all together)
+        (λ made' c up'' from free above. still-tied together is made' up'' from c free (λ x. omega (arith, above x, all.1 (are_clones rows x)))) n made set up up' (λ x. omega arith) ahead until sized
+
+    -- Where each candidate is near so few of those who tie that some of them still tie after all choices but one, the
+    -- choices are made among those who tie now.
+    module _ (total : ℕ) (some : 0 < length (ties step weights m rows set)) (few : (t : ℕ) → has_member (ties step weights m rows set) t ≡ true → (total - 1) * length (filter (near t) (ties step weights m rows set)) < length (ties step weights m rows set)) (made : List ℕ) where
+      -- those who are chosen
+      pub record IsSpread : Type 0 where
+        pub together : List ℕ
+        pub apart : IsApart together
+        pub long : length together ≡ total
+        pub made-is : (x : ℕ) → clone_count rows (picked step m made) x ≡ clone_count rows (picked step m set) x + clone_count rows together x
+
+      spread : (n : ℕ) (together now : List ℕ) → IsApart together → length together + n ≡ total → IsIncreasing 1 m now → ((x : ℕ) → clone_count rows (picked step m now) x ≡ clone_count rows (picked step m set) x + clone_count rows together x) → LeadsTo step weights m rows made n now → IsSpread
+      spread zero together now is long up' at leads = record { together = together; apart = is; long = omega (arith, long); made-is = λ x. omega (arith, leads.0 x, leads.1 x, at x) }
+      spread (suc n) together now is long up' at leads =
+          let c : ℕ = leads.0 in
+          let free = choice-open step weights m rows now c leads.1 in
+          let tied = ties step weights m rows set in
+          let u = some-uncovered near tied (total - 1) together (omega (arith, long)) some (λ s inside. omega (arith, few s (is.tied s inside), ap (λ i. (total - 1) * i) (length-filter (near s) tied))) in
+          let t = next-tied together is u.0 u.1 (λ s inside. sharing-turned s u.0 rows (far-parts s u.0 (u.2 s inside)).1) now up' at c leads.1 in
+          let more = apart-more together is t.0 t.1 t.3 in
+          let out = u-out together is t.0 t.1 t.3 now up' at in
+          spread n (with_member together t.0) (change step now c) more (omega (arith, long, count-with (λ (x : ℕ). true) together t.0 out, length-sum together, length-sum (with_member together t.0)))
+          (change-increasing step m now c up' free) (λ x. omega (arith, at x, count-change step (are_clones rows x) m now c up' free, count-with (are_clones rows x) together t.0 out, bits-same c t.0 x t.2)) leads.2
+
+      pub spreads : LeadsTo step weights m rows made total set → IsSpread
+      spreads leads = spread total [] set (record { increasing = tt; tied = λ t inside. absurd (let f : false ≡ true = inside in cc); apart = λ c d inside. absurd (let f : false ≡ true = inside in cc) }) (omega arith) up (λ y. omega arith) leads
+
+      -- then nobody is chosen outside a list of tied candidates that has them all
+      pub within-all : (is : IsSpread) (among : List ℕ) → IsIncreasing 1 m among → ((t : ℕ) → has_member among t ≡ true → has_member (ties step weights m rows set) t ≡ true) → ((t : ℕ) → has_member is.together t ≡ true → has_member among t ≡ true) → IsAhead step m rows made (with-all among)
+      within-all is among up'' tied within x =
+          omega (
+            arith,
+            is.made-is x,
+            (changed-all step m 1 set among up up'' (λ t inside. tied-open step weights m rows set t (tied t inside))).1 (are_clones rows x),
+            count-included (are_clones rows x) m is.together among is.apart.increasing up'' within,
+          )
+
+      -- and each of them may be chosen at once
+      pub chosen-first : (is : IsSpread) → IsIncreasing 1 m made → (u : ℕ) → has_member is.together u ≡ true → chosen step m made ≡ chosen step m set + total → LeadsTo step weights m rows made (total - 1) (change step set u)
+      chosen-first is up' u inside sized =
+          let together = is.together in
+          let all = with-is together is.apart in
+          let free = tied-open step weights m rows set u (is.apart.tied u inside) in
+          let one = λ (x : ℕ). count-change step (are_clones rows x) m set u up free in
+          may-leads step weights m rows ballots falls set (with-all together)
+          (λ made' c up'' from free' above. still-tied together is.apart made' up'' from c free' (λ x. omega (arith, above x, all.1 (are_clones rows x)))) (total - 1) made (change step set u) (change-increasing step m set u up free) up'
+          (λ x. omega (arith, one x)) (λ x. omega (arith, one x, is.made-is x, count-without (are_clones rows x) 1 m together u is.apart.increasing inside)) (λ x. omega (arith, is.made-is x, all.1 (are_clones rows x)))
+          (omega (arith, sized, chosen-change step m set u up free, is.long, length-sum together, count-without (λ (x : ℕ). true) 1 m together u is.apart.increasing inside))

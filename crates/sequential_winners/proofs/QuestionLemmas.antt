@@ -60,10 +60,10 @@ module _ (rule : SeqRule) (e : Election) (k : ℕ) (fits : k ≤ e.m) (c : ℕ) 
   asks family = may_be_in e.m e.rows c set (k - length set) family
 
   -- what is asked for is a set of candidates, which as many choices make
-  asked-increasing : (made : List ℕ) → IsAsked e.m k c set made → IsIncreasing 1 e.m made
+  pub asked-increasing : (made : List ℕ) → IsAsked e.m k c set made → IsIncreasing 1 e.m made
   asked-increasing made asked = subst (IsIncreasing 1 e.m) (sym asked.3) (joined-increasing c e.m 1 set asked.0 (omega arith) within up asked.1)
 
-  asked-size : (made : List ℕ) → IsAsked e.m k c set made → chosen (step_of rule) e.m made ≡ choices_of rule e.m k
+  pub asked-size : (made : List ℕ) → IsAsked e.m k c set made → chosen (step_of rule) e.m made ≡ choices_of rule e.m k
   asked-size made asked =
       (rule-size rule e.m k made fits (asked-increasing made asked)).0 (ap length asked.3 ∙ length-append set asked.0 ∙ asked.2)
 

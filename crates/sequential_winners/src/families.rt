@@ -17,7 +17,7 @@ ghost use Rattle.sequential_winners.specs.Steps.Levels.{AreFamilies};
 ghost use Rattle.sequential_winners.specs.Steps.Tables.{completed};
 
 use crate::levels::Levels;
-use crate::question::{MOST_DEAD, Question};
+use crate::question::{MOST_DEAD, Question, forget};
 use ballot_base::{CandSet, Clones, Profile};
 use std::alloc::{AllocError, Allocator, Global};
 use std::cell::Cell;
@@ -67,7 +67,7 @@ impl<'a, A: Allocator + Copy> Model for Families<'a, A> {
 }
 
 impl<'a, A: Allocator + Copy + Drop> Families<'a, A> {
-    /// The families of the winning committees of size `k`. They take less than 512 MB, and 5 MB if they are not stored.
+    /// The families of the winning committees of size `k`. They take less than 64 MB, and 5 MB if they are not stored.
     /// A failed allocation leaves nothing.
     pub fn new(
         alloc: A,
@@ -199,7 +199,7 @@ impl<'a, A: Allocator + Copy> Families<'a, A> {
     {
         let mut dead = self.dead.take();
         if let Some(sets) = &mut dead {
-            sets.clear();
+            forget(sets);
         }
         let question = Question {
             families: self,

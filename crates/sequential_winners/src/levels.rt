@@ -19,14 +19,14 @@
 //! good, and stands for all sets between the two. `proofs/LevelLemmas.antt` shows, by induction over levels, that the
 //! choices still to be made lead from the sets of a level to exactly the committees that some sequence of choices
 //! makes.
-ghost use Rattle.std.specs.Prelude.{◌≡◌, ◌≤◌, ◌++◌, ◌&&◌, nat_lt, true, None, ⊤, IfOk, MatchOption, OnOk};
+ghost use Rattle.std.specs.Prelude.{◌≡◌, ℕ, ◌≤◌, ◌++◌, ◌&&◌, nat_lt, true, None, ⊤, IfOk, MatchOption, OnOk};
 ghost use Rattle.std.specs.List.{AllByRecursion};
 ghost use Rattle.ballot_base.specs.Clones.{AreClones};
 ghost use Rattle.ballot_base.specs.CandSet.{has_member};
 ghost use Rattle.ballot_base.specs.Limits.{most_candidates};
 ghost use Rattle.ballot_base.specs.Lists.{IsIncreasing};
 ghost use Rattle.tie_walk.specs.Steps.Choices.{best_worth, tied_by, HasSetsOf};
-ghost use Rattle.sequential_winners.specs.Steps.Levels.{ties_by, next_hit_by, given_by, near_by, beginners_by, end_by, followers_by, AreFollowing, AreReached};
+ghost use Rattle.sequential_winners.specs.Steps.Levels.{ties_by, next_hit_by, given_by, near_by, beginners_by, AreApartBy, HasEnoughTiedBy, end_by, followers_by, AreFollowing, AreReached};
 ghost use Rattle.sequential_winners.specs.Steps.Questions.{LeadsAhead};
 
 use ballot_base::{CandSet, Clones};
@@ -34,9 +34,11 @@ use std::alloc::{AllocError, Allocator};
 use std::collections::HashSet;
 use tie_walk::sequential::{Choices, FoundSets, Step, in_order};
 
-/// The most sets that a level may have. It and the level before take less than 512 MB then, a usual limit where
-/// programs run.
-const MOST_SETS: usize = 14_000_000;
+/// The most sets that a level may have. It and the level before take less than 64 MB then.
+const MOST_SETS: usize = 1 << 20;
+
+/// The most sets that a level may have if questions are answered without it, each in few steps.
+const FEW_SETS: usize = 1 << 12;
 
 /// Where the choices from a set lead.
 pub(crate) enum Ahead {
@@ -44,8 +46,8 @@ pub(crate) enum Ahead {
     Within(CandSet),
     /// Towards this end, which lies beyond all choices.
     Beyond(CandSet),
-    /// To what these candidates make, of whom one is chosen.
-    Choices(CandSet),
+    /// To what the tied candidates make, of clones only the first, who bring the best worth.
+    Choices(u128, CandSet),
 }
 
 /// A sequential rule on a profile, followed level by level: level `n` has the sets that `n` choices make, the ends that
@@ -148,10 +150,47 @@ impl<A: Allocator + Copy + Drop> Levels<'_, A> {
         near
     }
 
+    /// Tied candidates, no two of whom share a voter whose next hit adds something: of `among` the first, the first of
+    /// those who are not near it, and so on, at most `most`.
+    pub(crate) fn apart(&self, set: CandSet, ties: CandSet, among: CandSet, most: u8) -> CandSet
+        requires ties { ties ≡ ties_by self.now.choices.rule self.now.choices.profile.now set }
+        requires valid { IsIncreasing 1 most_candidates ties }
+        requires among { (n : ℕ) → has_member among n ≡ true → has_member ties n ≡ true }
+        ensures { AreApartBy self.now.choices.rule self.now.choices.profile.now set result }
+    {
+        let mut apart = CandSet::empty();
+        let mut rest = among;
+        for _turn in 0..most {
+            let Some((next, _)) = rest.split_first() else {
+                break;
+            };
+            apart = apart.with(next);
+            rest = rest.minus(self.near(set, ties, next));
+        }
+        apart
+    }
+
+    /// Whether so many candidates tie that each of `left` choices is made among them: all choices but one leave some of
+    /// them in the tie.
+    pub(crate) fn has_enough_tied(&self, set: CandSet, ties: CandSet, left: u8) -> bool
+        requires ties { ties ≡ ties_by self.now.choices.rule self.now.choices.profile.now set }
+        requires valid { IsIncreasing 1 most_candidates ties }
+        ensures { result ≡ true → HasEnoughTiedBy self.now.choices.rule self.now.choices.profile.now left set }
+    {
+        let others = u16::from(left.saturating_sub(1));
+        for c in ties.members() {
+            let near = u16::from(self.near(set, ties, c).len());
+            if others * near >= u16::from(ties.len()) {
+                return false;
+            }
+        }
+        !ties.is_empty()
+    }
+
     /// The candidates who are followed from a set, where `left` choices are still to be made. If the voters of those
     /// far from the first tied candidate give less than `left` times the best worth, the first one or somebody near it
     /// is chosen before the best worth changes. So only these are followed.
-    fn beginners(&self, set: CandSet, best: u128, ties: CandSet, left: u8) -> CandSet
+    pub(crate) fn beginners(&self, set: CandSet, best: u128, ties: CandSet, left: u8) -> CandSet
         requires best { best ≡ best_worth self.now.choices.rule self.now.choices.profile.now set }
         requires ties { ties ≡ ties_by self.now.choices.rule self.now.choices.profile.now set }
         requires valid { IsIncreasing 1 most_candidates ties }
@@ -185,11 +224,7 @@ impl<A: Allocator + Copy + Drop> Levels<'_, A> {
                 }
                 Ahead::Within(end)
             }
-            None => {
-                let left = total.saturating_sub(rule.choices(profile.m(), set.len()));
-                let begin = self.beginners(set, best, ties, left);
-                Ahead::Choices(begin)
-            }
+            None => Ahead::Choices(best, ties),
         }
     }
 
@@ -246,6 +281,12 @@ impl<A: Allocator + Copy + Drop> Levels<'_, A> {
         Ok(Some(sets))
     }
 
+    /// Whether so many candidates tie that each of `left` choices is made among them.
+    fn has_lasting_ties(&self, set: CandSet, left: u8) -> bool {
+        let (_best, ties, end) = self.ties_and_end(set);
+        end.is_none() && left <= ties.len() && self.has_enough_tied(set, ties, left)
+    }
+
     /// The families that `total` choices make, or `None` if a level on the way has more than `MOST_SETS` sets.
     pub(crate) fn reached_families(
         &self,
@@ -257,12 +298,16 @@ impl<A: Allocator + Copy + Drop> Levels<'_, A> {
             AreReached self.now.choices.rule self.now.choices.profile.now total total sets.items)) }
     {
         let start = self.choices.rule.step().start(self.choices.profile.m());
+        let is_quick = self.has_lasting_ties(start, total);
         let mut level = vec![in alloc; start]?;
         for done in 0..total {
             let Some(next) = self.next_level(alloc, total, done, &level)? else {
                 return Ok(None);
             };
             level = next;
+            if level.len() > FEW_SETS && is_quick {
+                return Ok(None);
+            }
         }
         Ok(Some(level))
     }

@@ -5,16 +5,16 @@
 //! between it and the set after all choices that can be made: these two are the ends of a family. Sets that lead to
 //! nothing are remembered, as far as there is room, so that they are not gone through twice. What is remembered and the
 //! order of choices only decide how soon a search ends.
-ghost use Rattle.std.specs.Prelude.{◌≡◌, ◌≤◌, ◌-◌, ◌++◌, ℕ, List, [], ◌∷◌, Contains, true, false, ⊤, MatchOption, length};
-ghost use Rattle.ballot_base.specs.CandSet.{has_member};
+ghost use Rattle.std.specs.Prelude.{◌≡◌, ◌≤◌, ◌-◌, ◌<◌, ◌++◌, ℕ, List, None, fold, [], ◌∷◌, Contains, true, false, ⊤, MatchOption, length};
+ghost use Rattle.ballot_base.specs.CandSet.{has_member, without_member};
 ghost use Rattle.ballot_base.specs.Lists.{IsIncreasing};
 ghost use Rattle.ballot_base.specs.Limits.{most_candidates};
 ghost use Rattle.ballot_base.specs.Steps.Lists.{IsIncreasing-prop};
-ghost use Rattle.tie_walk.specs.Steps.Choices.{step_of, choices_of, change};
+ghost use Rattle.tie_walk.specs.Steps.Choices.{step_of, choices_of, change, best_worth};
 ghost use Rattle.sequential_winners.specs.Families.{sequential_of};
 ghost use Rattle.sequential_winners.specs.Steps.Families.{may_be_in};
-ghost use Rattle.sequential_winners.specs.Steps.Levels.{chosen};
-ghost use Rattle.sequential_winners.specs.Steps.Questions.{family_of, finish, IsLive, IsDead, AreDead};
+ghost use Rattle.sequential_winners.specs.Steps.Levels.{chosen, end_by, ties_by};
+ghost use Rattle.sequential_winners.specs.Steps.Questions.{family_of, finish, IsLive, IsDead, AreBranches, AreDead};
 
 use crate::families::Families;
 use crate::levels::{Ahead, Levels};
@@ -73,25 +73,111 @@ impl<A: Allocator + Copy + Drop> Question<'_, '_, A> {
         if is_dead(dead, from) {
             return false;
         }
-        let leads = match self.levels.ahead(from, total) {
-            Ahead::Within(end) => self.leads(dead, end),
-            Ahead::Beyond(end) => self.has_between(from, end),
-            Ahead::Choices(begin) => {
-                let mut left = begin;
-                while let Some(next) = self.first_choice(left) {
-                    let after = self.after(from, next);
-                    if self.leads(dead, after) {
-                        return true;
-                    }
-                    left = left.without(next);
-                }
-                false
-            }
+        let begin = match self.levels.ahead(from, total) {
+            Ahead::Within(end) => return self.leads(dead, end),
+            Ahead::Beyond(end) => return self.has_between(from, end),
+            Ahead::Choices(best, ties) => self.branches(from, best, ties),
         };
-        if !leads {
+        let Some(begin) = begin else {
+            return true;
+        };
+        let mut left = begin;
+        while let Some(next) = self.first_choice(left) {
+            let after = self.after(from, next);
+            if self.leads(dead, after) {
+                return true;
+            }
+            left = left.without(next);
+        }
+        // What one choice leads to is soon found again.
+        if begin.len() > 1 {
             bury(dead, from);
         }
-        leads
+        false
+    }
+
+    /// The candidates of whom one is chosen next if the choices lead to a committee that is asked for; `None` if they
+    /// are sure to lead to one. Two facts about the tied candidates save a search if more of them tie than choices are
+    /// left. Those who are apart are chosen in any order (`Levels::apart`). And many ties last
+    /// (`Levels::has_enough_tied`): then nobody else is chosen.
+    // Not inlined: it would take stack at each set of a search.
+    #[inline(never)]
+    fn branches(&self, from: CandSet, best: u128, ties: CandSet) -> Option<CandSet>
+        requires from { IsIncreasing 1 self.now.levels.choices.profile.now.m from }
+        requires more { chosen (step_of self.now.levels.choices.rule) self.now.levels.choices.profile.now.m from
+            < choices_of self.now.levels.choices.rule self.now.levels.choices.profile.now.m self.now.k }
+        requires end { end_by self.now.levels.choices.rule self.now.levels.choices.profile.now from ≡ None }
+        requires best { best ≡ best_worth self.now.levels.choices.rule self.now.levels.choices.profile.now from }
+        requires ties { ties ≡ ties_by self.now.levels.choices.rule self.now.levels.choices.profile.now from }
+        ensures live { result ≡ None → IsLive self.now.levels.choices.rule
+            self.now.levels.choices.profile.now self.now.k self.now.c self.now.set from }
+        ensures branches { MatchOption result ⊤ (AreBranches self.now.levels.choices.rule
+            self.now.levels.choices.profile.now self.now.k self.now.c self.now.set from) }
+    {
+        let Choices { profile, rule, .. } = &self.levels.choices;
+        let total = rule.choices(profile.m(), self.k);
+        let left = total.saturating_sub(rule.choices(profile.m(), from.len()));
+        if best > 0 && left <= ties.len() {
+            let apart = self
+                .levels
+                .apart(from, ties, ties.common(self.allowed()), left);
+            if self.has_between(from, self.after_all(from, apart)) {
+                return None;
+            }
+            if self.levels.has_enough_tied(from, ties, left) {
+                if !self.has_between(from, self.after_all(from, ties)) {
+                    return Some(CandSet::empty());
+                }
+                if let Some(needed) = self.needed(from, ties) {
+                    return Some(CandSet::empty().with(needed));
+                }
+            }
+        }
+        Some(self.levels.beginners(from, best, ties, left))
+    }
+
+    /// One of the tied candidates, if no committee that is asked for is made without it by choices among them.
+    fn needed(&self, from: CandSet, ties: CandSet) -> Option<u8>
+        requires from { IsIncreasing 1 self.now.levels.choices.profile.now.m from }
+        requires ties { ties ≡ ties_by self.now.levels.choices.rule self.now.levels.choices.profile.now from }
+        ensures { MatchOption result ⊤ (λ next. (has_member ties next ≡ true) × (may_be_in
+            self.now.levels.choices.profile.now.m self.now.levels.choices.profile.now.rows
+            self.now.c self.now.set (self.now.k - length self.now.set)
+            (family_of (step_of self.now.levels.choices.rule) from
+            (fold (change (step_of self.now.levels.choices.rule)) from (without_member ties next))) ≡ false)) }
+    {
+        let needed = match self.levels.choices.rule.step() {
+            Step::Grow => ties.common(self.set),
+            Step::Shrink => ties.minus(
+                self.set
+                    .union(CandSet::after(self.c, self.levels.choices.profile.m())),
+            ),
+        };
+        let (next, _) = needed.split_first()?;
+        if !ties.has(next) || self.has_between(from, self.after_all(from, ties.without(next))) {
+            return None;
+        }
+        Some(next)
+    }
+
+    /// The candidates who may be chosen: all but those whom the choice of would leave no committee that is asked for.
+    fn allowed(&self) -> CandSet {
+        let Choices { profile, rule, .. } = &self.levels.choices;
+        let after = CandSet::after(self.c, profile.m());
+        match rule.step() {
+            Step::Grow => self.set.union(after),
+            Step::Shrink => CandSet::all(profile.m()).minus(self.set),
+        }
+    }
+
+    /// The set after the choice of each of these candidates.
+    fn after_all(&self, from: CandSet, choices: CandSet) -> CandSet
+        ensures { result ≡ fold (change (step_of self.now.levels.choices.rule)) from choices }
+    {
+        match self.levels.choices.rule.step() {
+            Step::Grow => from.union(choices),
+            Step::Shrink => from.minus(choices),
+        }
     }
 
     /// The set after all choices that can be made.
@@ -184,5 +270,14 @@ fn bury<A: Allocator + Copy>(dead: &mut Option<FoundSets<A>>, set: CandSet)
     match sets.insert(set) {
         Ok(_) => {}
         Err(_) => sets.clear(),
+    }
+}
+
+/// Forgets all sets. To clear a table takes as long as its room is large, so an empty one is left.
+pub(crate) fn forget<A: Allocator + Copy>(sets: &mut FoundSets<A>)
+    ensures { sets.new.keys ≡ [] }
+{
+    if !sets.is_empty() {
+        sets.clear();
     }
 }

@@ -104,6 +104,21 @@ beginners step weights m rows left set =
     then near
     else tied
 
+-- tied candidates, no two of whom share a voter whose next hit adds something
+pub record AreApart (step : Step) (weights : List ℕ) (m : ℕ) (rows : List Row) (set together : List ℕ) : Type 0 where
+  pub increasing : IsIncreasing 1 m together
+  pub tied : (t : ℕ) → has_member together t ≡ true → has_member (ties step weights m rows set) t ≡ true
+  pub apart : (c d : ℕ) → has_member together c ≡ true → has_member together d ≡ true → (c ≡ d → ⊥)
+      → share_voter step weights rows set c d ≡ false
+
+-- Whether so many candidates tie that some of them still tie after all but one of `left` choices: each choice takes out
+-- of the tie only those near it.
+abbrev pub HasEnoughTied : Step → List ℕ → ℕ → List Row → ℕ → List ℕ → Type 0
+HasEnoughTied step weights m rows left set =
+    let tied = ties step weights m rows set in
+    (0 < length tied) × ((t : ℕ) → has_member tied t ≡ true
+    → (left - 1) * length (filter (is_near step weights rows set t) tied) < length tied)
+
 -- what follows a set in the levels of `total` choices: the sets that one choice makes; or the end; or the set itself,
 -- for good, if its end lies beyond
 abbrev pub followed : Step → ℕ → ℕ → List ℕ → List ℕ → Option (List ℕ) → List (List ℕ)
@@ -217,6 +232,12 @@ given_by rule e set candidates = given (step_of rule) (hit_weights rule e.m) e.r
 
 abbrev pub beginners_by : SeqRule → Election → ℕ → List ℕ → List ℕ
 beginners_by rule e left set = beginners (step_of rule) (hit_weights rule e.m) e.m e.rows left set
+
+abbrev pub AreApartBy : SeqRule → Election → List ℕ → List ℕ → Type 0
+AreApartBy rule e set together = AreApart (step_of rule) (hit_weights rule e.m) e.m e.rows set together
+
+abbrev pub HasEnoughTiedBy : SeqRule → Election → ℕ → List ℕ → Type 0
+HasEnoughTiedBy rule e left set = HasEnoughTied (step_of rule) (hit_weights rule e.m) e.m e.rows left set
 
 abbrev pub end_by : SeqRule → Election → List ℕ → Option (List ℕ)
 end_by rule e set = end (step_of rule) (hit_weights rule e.m) e.m e.rows set

@@ -22,7 +22,7 @@ leads-is_reached-requires-clause-few g c =
 
 pub leads-is_reached-requires-clause-dead : goal.leads-is_reached-requires-clause-dead
 leads-is_reached-requires-clause-dead g c = elim c.match-dead.branch [
-  | in-Some w ↦ rw w.dead-is (λ from inside. absurd (none-in w.clear.new.self.keys from w.clear.ensures.empty inside))
+  | in-Some w ↦ rw w.dead-is (λ from inside. absurd (none-in w.forget.new.sets.keys from w.forget.ensures inside))
   | in_default w ↦ rw (w.dead-is, w.in_default.is) tt
 ]
 
