@@ -10,6 +10,7 @@ mod good;
 pub mod laws;
 pub mod minimax;
 mod needs;
+mod rows;
 mod search;
 mod walk;
 mod weights;

@@ -16,7 +16,6 @@ use crate::needs::still_needed;
 use crate::weights::{NeedSearch, Weighing};
 use ballot_base::CandSet;
 use row_multipliers::Node;
-use row_multipliers::multipliers::RowBound;
 use std::alloc::Allocator;
 use tie_search::descent::{Narrowing, Plan};
 use tie_walk::{MinimaxTally, Tally};
@@ -48,6 +47,7 @@ impl<A: Allocator + Copy> Narrowing for MinimaxSearch<'_, A> {
         let (choices, free) = self.choices(node, most)?;
         let search = NeedSearch {
             profile: self.profile,
+            rows: &self.rows,
             weighing: self.weighing(node.left, choices),
             most,
         };
@@ -94,38 +94,51 @@ impl<A: Allocator + Copy> MinimaxSearch<'_, A> {
         let mut choices = node.free;
         let mut rest = node.free;
         let mut fewest = u8::MAX;
-        let mut most_needed = 0;
-        for (ballot, _voters) in self.profile.ballots() {
+        let mut heaviest = 0;
+        let rows = self.profile.rows();
+        let mut matter = self.rows.count_above(node.left);
+        let mut place: usize = 0;
+        for _visit in 0..matter {
+            let (ballot, _voters) = self.profile.row(self.rows.row(place, rows));
             let needed = still_needed(ballot, node, most);
-            if needed == 0 {
+            let open = ballot.common(rest);
+            let others = rest.minus(ballot);
+            if needed == 0 || u16::from(needed) + u16::from(others.len()) <= u16::from(node.left) {
+                // Each completion gives the ballot the hits that it needs.
+                matter = matter.saturating_sub(1);
+                self.rows.exchange(place, matter);
                 continue;
             }
-            let open = ballot.common(rest);
             if needed > node.left.min(open.len()) {
+                // The ballot often refutes the next node as well.
+                self.rows.exchange(place, 0);
                 return None;
             }
             if needed == node.left {
                 rest = open;
             }
             let spare = open.len() - needed;
+            let weight = self.rows.weight(place);
             // Any ballot that needs a hit works. A tight one leaves few candidates to try.
-            if spare < fewest || spare == fewest && needed > most_needed {
+            if spare < fewest || spare == fewest && weight > heaviest {
                 choices = open;
                 fewest = spare;
-                most_needed = needed;
+                heaviest = weight;
             }
+            place = place.saturating_add(1);
         }
+        self.rows.note(node.left, matter);
         Some((choices, rest))
     }
 
     /// Enters a node with `left` seats left, and chooses weights. The `choices` are to be tried.
-    fn weighing(&self, left: u8, choices: CandSet) -> Weighing<'_, A> {
+    fn weighing(&self, left: u8, choices: CandSet) -> Weighing<'_> {
         self.moves.enter(left);
         if left < FEWEST_SEATS || choices.len() < FEWEST_CHOICES {
             return Weighing::Nothing;
         }
         if self.moves.are_due(left) {
-            Weighing::Moved(&self.weights)
+            Weighing::Moved
         } else {
             Weighing::ByShare(&self.shares)
         }
