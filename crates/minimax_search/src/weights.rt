@@ -2,9 +2,10 @@
 //!
 //! All needs are added up, each with a weight. A set is given up if the sum exceeds what the best free candidates can
 //! give. A candidate leaves if every completion with it falls short (`laws::weighted_needs`; Glover, Surrogate
-//! constraints, 1968). Any weights work. A ballot weighs by the share that it needs of its free candidates. If
-//! that pays, weights are moved instead, as multipliers are (`row_multipliers::multipliers`). With weights by the share, 64 candidates and
-//! 20 seats did not end within 12 s if voters and candidates lie on a line. With moved ones they take 0.01 s.
+//! constraints, 1968). Any weights work. A ballot weighs by the share that it needs of its free candidates. If that
+//! pays, weights are moved instead, as multipliers are (`row_multipliers::multipliers`). With weights by the share, 64
+//! candidates and 20 seats did not end within 12 s if voters and candidates lie on a line. With moved ones they take
+//! 0.01 s.
 ghost use Rattle.std.specs.Prelude.{◌≡◌, ℕ, ◌^◌, ◌≤◌, slice_index, ◌-◌};
 ghost use Rattle.ballot_base.specs.Limits.{most_candidates};
 ghost use Rattle.row_multipliers.specs.Completions.{IsNode};
@@ -67,6 +68,7 @@ impl Shares {
 /// A ballot that needs less than nine eighths of the hits that are usual weighs nothing by its share. Any numbers work.
 /// With these, 40 random candidates and 20 seats took half as long.
 const TIGHT_OF: u64 = 9;
+
 const TIGHT: u64 = 8;
 
 /// Whether a ballot needs more hits than it would usually get, if seats went to the free candidates at random.
@@ -180,7 +182,8 @@ impl<A: Allocator + Copy> NeedSearch<'_, A> {
                 break;
             }
             let missing = excess.saturating_add(needs.due / MARGIN);
-            self.rows.step(node.left, WeighedRows::<A>::length(missing, square));
+            self.rows
+                .step(node.left, WeighedRows::<A>::length(missing, square));
         }
         closing.end(Some(here.free))
     }
