@@ -65,17 +65,12 @@ impl Shares {
     }
 }
 
-/// A ballot that needs less than nine eighths of the hits that are usual weighs nothing by its share. Any numbers work.
-/// With these, 40 random candidates and 20 seats took half as long.
-const TIGHT_OF: u64 = 9;
-
-const TIGHT: u64 = 8;
-
-/// Whether a ballot needs more hits than it would usually get, if seats went to the free candidates at random.
+/// Whether a ballot needs at least the hits that it would get on average if seats went to the free candidates at
+/// random. Others weigh nothing by their share, so that 40 random candidates and 20 seats took 0.6 times as long. With
+/// nine eighths of these hits as the limit, some elections took twice as long. Any answer works.
 fn is_tight(needed: u8, approved: CandSet, node: &Node) -> bool {
     let share = u64::from(needed).saturating_mul(u64::from(node.free.len()));
-    let usual = u64::from(approved.len()).saturating_mul(u64::from(node.left));
-    share.saturating_mul(TIGHT) >= usual.saturating_mul(TIGHT_OF)
+    share >= u64::from(approved.len()).saturating_mul(u64::from(node.left))
 }
 
 /// How ballots are weighed at a node.
