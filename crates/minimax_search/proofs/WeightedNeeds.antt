@@ -3,7 +3,6 @@ use Rattle.std.proofs.Common.{◌≡◌, ℕ, ◌+◌, ◌-◌, ◌*◌, ◌<◌
 use Rattle.std.specs.List.{AllByRecursion}
 use Rattle.std.proofs.Math.Nat.{mul-le-mul_left}
 use Rattle.std.proofs.lemmas.List.Sums.{sum_by-cons}
-use Rattle.std.proofs.lemmas.Option.{slice_get_within}
 use Rattle.ballot_base.specs.CandSet.{has_member, common_members}
 use Rattle.ballot_base.specs.Lists.{IsIncreasing}
 use Rattle.ballot_base.specs.Ballots.{Row, Election, IsElection, hits, voter_count}
@@ -84,9 +83,8 @@ rows-few : (rows : List Row) → AllByRecursion (λ (row : Row). 0 < row.1) rows
 rows-few [] counts = omega arith
 rows-few (row ∷ rows) counts = omega (arith, counts.0, rows-few rows counts.1, sum_by-cons (λ (r : Row). r.1) row rows)
 
-pub turns-few : (e : Election) (i : ℕ) (row : Row) → IsElection e → slice_get e.rows i ≡ Some row → i < 2 ^ 32
-turns-few e i row valid found =
-    omega (arith, slice_get_within e.rows i row found, rows-few e.rows valid.counts, valid.voters)
+pub rows-few-enough : (e : Election) → IsElection e → length e.rows ≤ 2 ^ 32
+rows-few-enough e valid = omega (arith, rows-few e.rows valid.counts, valid.voters)
 
 -- ---- committees that are near
 

@@ -7,10 +7,10 @@ ghost use Rattle.tie_walk.specs.Values.{closeness};
 ghost use Rattle.ballot_base.specs.Ballots.{Election, IsElection};
 
 use crate::good::near_committee;
+use crate::rows::WeighedRows;
 use crate::walk::Walk;
-use crate::weights::{FIRST_WEIGHT, Shares};
+use crate::weights::Shares;
 use ballot_base::{CandSet, Clones, Profile};
-use row_multipliers::multipliers::Multipliers;
 use row_multipliers::{Moves, Node};
 use std::alloc::{AllocError, Allocator, Global};
 use std::marker::Model;
@@ -25,7 +25,7 @@ pub struct MinimaxSearch<'a, A: Allocator + Copy = Global> {
     pub(crate) profile: &'a Profile<A>,
     clones: Clones,
     pub(crate) shares: Shares,
-    pub(crate) weights: Multipliers<A>,
+    pub(crate) rows: WeighedRows<A>,
     // Where it pays to move weights, over all questions so far.
     pub(crate) moves: Moves,
 }
@@ -47,7 +47,7 @@ const ROUND: u64 = 2;
 const SHORT_SEARCH: u64 = 1000;
 
 impl<'a, A: Allocator + Copy + Drop> MinimaxSearch<'a, A> {
-    /// Prepares a search among the committees of a profile's candidates. It takes 24 bytes for each different ballot,
+    /// Prepares a search among the committees of a profile's candidates. It takes 16 bytes for each different ballot,
     /// and a search takes no more. A failed allocation leaves nothing.
     pub fn new(alloc: A, profile: &'a Profile<A>) -> Result<MinimaxSearch<'a, A>, AllocError>
         ensures { IfOk result (λ search. search ≡ profile.now) }
@@ -56,7 +56,7 @@ impl<'a, A: Allocator + Copy + Drop> MinimaxSearch<'a, A> {
             profile,
             clones: Clones::of(profile),
             shares: Shares::equal(),
-            weights: Multipliers::of(alloc, profile.rows(), FIRST_WEIGHT)?,
+            rows: WeighedRows::of(alloc, profile.rows())?,
             moves: Moves::new(ROUND),
         })
     }
@@ -118,6 +118,7 @@ impl<'a, A: Allocator + Copy> Searchable for MinimaxSearch<'a, A> {
     }
 
     fn find(&self, node: &Node, least: u128) -> Option<CandSet> {
+        self.rows.begin(node.left);
         match descent::find_within(self, *node, least, SHORT_SEARCH) {
             Ok(found) => found,
             Err(GivenUp) => match self.reached(node, least) {

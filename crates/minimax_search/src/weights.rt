@@ -2,45 +2,29 @@
 //!
 //! All needs are added up, each with a weight. A set is given up if the sum exceeds what the best free candidates can
 //! give. A candidate leaves if every completion with it falls short (`laws::weighted_needs`; Glover, Surrogate
-//! constraints, 1968). Any weights work. A ballot weighs by the share that it needs of its free candidates. If
-//! that pays, weights are moved instead (`row_multipliers::multipliers`). With weights by the share, 64 candidates and
-//! 20 seats did not end within 12 s if voters and candidates lie on a line. With moved ones they take 0.01 s.
-ghost use Rattle.std.specs.Prelude.{ℕ, ◌^◌, ◌<◌, ◌≤◌, length, slice_index, ◌-◌};
-ghost use Rattle.ballot_base.specs.Ballots.{IsElection};
+//! constraints, 1968). Any weights work. A ballot weighs by the share that it needs of its free candidates. If that
+//! pays, weights are moved instead, as multipliers are (`row_multipliers::multipliers`). With weights by the share, 64
+//! candidates and 20 seats did not end within 12 s if voters and candidates lie on a line. With moved ones they take
+//! 0.01 s.
+ghost use Rattle.std.specs.Prelude.{◌≡◌, ℕ, ◌^◌, ◌≤◌, slice_index, ◌-◌};
 ghost use Rattle.ballot_base.specs.Limits.{most_candidates};
 ghost use Rattle.row_multipliers.specs.Completions.{IsNode};
+ghost use Rattle.row_multipliers.specs.Steps.Constraints.{IsConstraint};
 ghost use Rattle.minimax_search.specs.Steps.Search.{NarrowsNear, share_parts};
 ghost use Rattle.tie_walk.specs.Values.{closeness};
 
 use crate::needs::still_needed;
+use crate::rows::WeighedRows;
 use ballot_base::{CandSet, PLACES, Profile, Worths};
-use row_multipliers::multipliers::{
-    Constraint, Effort, Gap, MOST_MOVED, Multipliers, RowBound, WHOLE, Wanted, narrowed,
-};
+use row_multipliers::multipliers::{Constraint, Moved};
 use row_multipliers::{Moves, Node};
 use std::alloc::Allocator;
 
-/// Each moved weight begins with this number: enough that rounding matters little.
-pub(crate) const FIRST_WEIGHT: u64 = 1 << 26;
+/// The maximum number of rounds at a node. With 10 and with 20, some elections took three times as long.
+const MOST_ROUNDS: u32 = 15;
 
-/// Weights are raised if those of the ballots that need hits are together less than this. Moving makes them smaller,
-/// and the shortest step would then leave only zeros. When weights began with 2^20 and were not raised, 64 popular
-/// candidates and 20 seats took over 8 s, and they take 0.2 s now. Any number works.
-const LEAST_TOGETHER: u64 = 1 << 28;
-
-/// About what raised weights are together.
-const RAISED: u64 = 1 << 34;
-
-/// How long weights are moved at a node. With 10 and with 20 rounds, some elections took three times as long. If moving
-/// went back to the best round, rankings round four centres took more than twice as long.
-const NODE: Effort = Effort {
-    rounds: 15,
-    pace: WHOLE,
-    least_pace: 0,
-    patience: u8::MAX,
-    large_gap: None,
-    goes_back: false,
-};
+/// The number of rounds between two judgements whether the gap closes fast enough.
+const ROUNDS_BETWEEN: u32 = 3;
 
 /// A step aims at weighted needs that exceed the supports by the total divided by this. With 8, voters and candidates
 /// in a square took thirty times as long, and with 128, 60 random voters twenty times as long. Any number works.
@@ -81,22 +65,74 @@ impl Shares {
     }
 }
 
+/// Whether a ballot needs at least the hits that it would get on average if seats went to the free candidates at
+/// random. Others weigh nothing by their share, so that 40 random candidates and 20 seats took 0.6 times as long. With
+/// nine eighths of these hits as the limit, some elections took twice as long. Any answer works.
+fn is_tight(needed: u8, approved: CandSet, node: &Node) -> bool {
+    let share = u64::from(needed).saturating_mul(u64::from(node.free.len()));
+    share >= u64::from(approved.len()).saturating_mul(u64::from(node.left))
+}
+
 /// How ballots are weighed at a node.
 #[derive(Drop)]
-pub(crate) enum Weighing<'a, A: Allocator> {
+pub(crate) enum Weighing<'a> {
     /// Not at all, since it does not pay.
     Nothing,
     /// By the share that a ballot needs of its free candidates.
     ByShare(&'a Shares),
     /// By weights that are moved.
-    Moved(&'a Multipliers<A>),
+    Moved,
+}
+
+/// How far the gap has closed in the rounds at a node.
+#[derive(Drop)]
+struct Closing {
+    smallest: u128,
+    // The smallest gap some rounds ago.
+    before: u128,
+    rounds: u32,
+}
+
+impl Closing {
+    fn new() -> Closing {
+        Closing {
+            smallest: u128::MAX,
+            before: u128::MAX,
+            rounds: 0,
+        }
+    }
+
+    /// Notes the gap of a round. Returns whether the gap would not close in the rounds that are left, even at twice the
+    /// pace of the last ones.
+    fn is_too_slow(&mut self, gap: u128) -> bool {
+        self.rounds = self.rounds.saturating_add(1);
+        self.smallest = self.smallest.min(gap);
+        if self.rounds % ROUNDS_BETWEEN != 0 {
+            return false;
+        }
+        let gain = self.before.saturating_sub(self.smallest);
+        let rounds = u128::from(MOST_ROUNDS.saturating_sub(self.rounds));
+        self.before = self.smallest;
+        gain.saturating_mul(rounds) / 2 < self.smallest
+    }
+
+    fn end(&self, free: Option<CandSet>) -> Moved
+        ensures { result.free ≡ free }
+    {
+        Moved {
+            free,
+            best: CandSet::empty(),
+            rounds: self.rounds,
+        }
+    }
 }
 
 /// What a search looks for by weighted needs: a committee from which no ballot is farther than `most`.
 #[derive(Drop)]
 pub(crate) struct NeedSearch<'a, A: Allocator + Copy> {
     pub(crate) profile: &'a Profile<A>,
-    pub(crate) weighing: Weighing<'a, A>,
+    pub(crate) rows: &'a WeighedRows<A>,
+    pub(crate) weighing: Weighing<'a>,
     pub(crate) most: u8,
     ghost size: { profile.now.m ≤ most_candidates },
 }
@@ -108,70 +144,70 @@ impl<A: Allocator + Copy> NeedSearch<'_, A> {
         requires is_node { IsNode self.now.profile.now.m node.now.set node.now.free }
         ensures { NarrowsNear self.now.profile.now self.now.most node.now result }
     {
-        let Weighing::Moved(weights) = &self.weighing else {
+        if !matches!(&self.weighing, Weighing::Moved) {
             moves.work(0);
             return Some(node.free);
-        };
-        self.raise(*weights, node);
-        let moved = narrowed(self, *weights, node, NODE);
+        }
+        self.rows.raise(node.left);
+        let moved = self.narrowed(node);
         moves.note(node, &moved);
         moved.free
     }
 
-    /// Raises the weights of the ballots that need hits at a node, if all of them are small. Only how they compare with
-    /// one another matters.
-    fn raise(&self, weights: &Multipliers<A>, node: &Node)
+    /// Moves the weights until no completion of the node is near each ballot, or the gap closes too slowly.
+    fn narrowed(&self, node: &Node) -> Moved
         requires is_node { IsNode self.now.profile.now.m node.now.set node.now.free }
+        ensures { NarrowsNear self.now.profile.now self.now.most node.now result.free }
     {
-        let mut together: u64 = 0;
-        for i in 0..self.profile.rows() {
-            if self.needs_hits(i, node) {
-                together = together.saturating_add(weights.within(i, 0, MOST_MOVED));
+        let mut closing = Closing::new();
+        let mut here = *node;
+        for _round in 0..MOST_ROUNDS {
+            let needs = self.constraint(&here);
+            let Some(free) = needs.narrowed(&here) else {
+                return closing.end(None);
+            };
+            here.free = free;
+            let best = needs.best(&here);
+            let excess = needs.excess(best);
+            if closing.is_too_slow(excess.saturating_mul(GAP_PARTS) / needs.due.max(1)) {
+                break;
             }
-        }
-        if together >= LEAST_TOGETHER {
-            return;
-        }
-        let factor = RAISED / together.max(1);
-        for i in 0..self.profile.rows() {
-            if self.needs_hits(i, node) {
-                let weight = weights.within(i, 0, MOST_MOVED).saturating_add(1);
-                weights.begin(i, weight.saturating_mul(factor));
+            let square = self.aim(&here, best);
+            if square == 0 {
+                break;
             }
+            let missing = excess.saturating_add(needs.due / MARGIN);
+            self.rows
+                .step(node.left, WeighedRows::<A>::length(missing, square));
         }
+        closing.end(Some(here.free))
     }
 
-    /// Whether the ballot of row i needs hits at a node.
-    fn needs_hits(&self, i: usize, node: &Node) -> bool
-        requires valid { IsElection self.now.profile.now }
-        requires row { i < length self.now.profile.now.rows }
-        requires is_node { IsNode self.now.profile.now.m node.now.set node.now.free }
-    {
-        let (ballot, _voters) = self.profile.row(i);
-        still_needed(ballot, node, self.most) > 0
-    }
-
-    /// The weight of row i, whose ballot needs some of its free candidates.
-    fn weight(&self, i: usize, needed: u8, approved: CandSet) -> u64
+    /// The weight of the row at a place, whose ballot needs some of its free candidates.
+    fn weight(&self, place: usize, needed: u8, approved: CandSet, node: &Node) -> u64
         ensures { result ≤ 2 ^ 62 }
     {
         match &self.weighing {
             Weighing::Nothing => 0,
-            Weighing::ByShare(shares) => shares.weight(needed, approved),
-            Weighing::Moved(weights) => weights.within(i, 0, MOST_MOVED),
+            Weighing::ByShare(shares) => {
+                if is_tight(needed, approved, node) {
+                    shares.weight(needed, approved)
+                } else {
+                    0
+                }
+            }
+            Weighing::Moved => self.rows.weight(place),
         }
     }
-}
 
-impl<A: Allocator + Copy> RowBound for NeedSearch<'_, A> {
-    ghost candidates = { λ search. search.profile.now.m };
-
-    ghost value_of = { λ search set. closeness search.profile.now.m search.profile.now.rows set };
-
-    ghost least = { λ search. search.profile.now.m - search.most };
-
-    // What all ballots still need is due. A free candidate is worth the total weight of the ballots that approve it.
-    fn constraint(&self, node: &Node) -> Constraint {
+    /// The needs of a node by the present weights. What all ballots still need is due. A free candidate is worth the
+    /// total weight of the ballots that approve it.
+    pub(crate) fn constraint(&self, node: &Node) -> Constraint
+        requires is_node { IsNode self.now.profile.now.m node.now.set node.now.free }
+        ensures constraint { IsConstraint (closeness self.now.profile.now.m self.now.profile.now.rows)
+            self.now.profile.now.m node.now (self.now.profile.now.m - self.now.most) result }
+        ensures most { self.now.profile.now.m ≤ most_candidates }
+    {
         let mut needs = Constraint {
             paid: 0,
             due: 0,
@@ -180,13 +216,18 @@ impl<A: Allocator + Copy> RowBound for NeedSearch<'_, A> {
         if matches!(&self.weighing, Weighing::Nothing) {
             return needs;
         }
-        for i in 0..self.profile.rows() {
-            let (ballot, _voters) = self.profile.row(i);
+        let are_moved = matches!(&self.weighing, Weighing::Moved);
+        let rows = self.profile.rows();
+        for place in 0..self.rows.count(node.left).min(rows) {
+            // Most moved weights are 0.
+            if are_moved && self.rows.weight(place) == 0 {
+                continue;
+            }
+            let (ballot, _voters) = self.profile.row(self.rows.row(place, rows));
             let needed = still_needed(ballot, node, self.most);
             if needed > 0 {
                 let approved = ballot.common(node.free);
-                let weight = u128::from(self.weight(i, needed, approved));
-                // Most moved weights are 0.
+                let weight = u128::from(self.weight(place, needed, approved, node));
                 if weight > 0 {
                     needs.due += weight * u128::from(needed);
                     needs.worths.add(approved, weight);
@@ -196,31 +237,19 @@ impl<A: Allocator + Copy> RowBound for NeedSearch<'_, A> {
         needs
     }
 
-    fn gap(&self, constraint: &Constraint, best: CandSet) -> Gap {
-        let excess = constraint.excess(best);
-        Gap {
-            size: excess.saturating_mul(GAP_PARTS) / constraint.due.max(1),
-            closing_step: excess.saturating_add(constraint.due / MARGIN),
-        }
-    }
-
-    fn aim(&self, node: &Node, best: CandSet) -> u128 {
-        let Weighing::Moved(weights) = &self.weighing else {
-            return 0;
-        };
+    /// Turns the directions of the rows to the hits that they lack among the candidates of the highest worths. Returns
+    /// the sum of the squared directions.
+    fn aim(&self, node: &Node, best: CandSet) -> u64
+        requires is_node { IsNode self.now.profile.now.m node.now.set node.now.free }
+    {
         let mut square: u64 = 0;
-        for i in 0..self.profile.rows() {
-            let (ballot, _voters) = self.profile.row(i);
+        let rows = self.profile.rows();
+        for place in 0..self.rows.count(node.left) {
+            let (ballot, _voters) = self.profile.row(self.rows.row(place, rows));
             let needed = still_needed(ballot, node, self.most);
-            if needed > 0 {
-                let wanted = Wanted {
-                    fewest: needed,
-                    most: needed,
-                };
-                weights.want(i, wanted);
-                square = square.saturating_add(weights.aim(i, ballot.common(best).len()));
-            }
+            let lacking = i32::from(needed) - i32::from(ballot.common(best).len());
+            square = square.saturating_add(self.rows.aim(place, lacking));
         }
-        u128::from(square)
+        square
     }
 }

@@ -1,4 +1,4 @@
-use Rattle.std.proofs.Common.{ℕ, ◌+◌, ◌*◌, ◌^◌, ◌≤◌, ◌∙◌, cond, ap, sym, subst, arith, length, slice_index}
+use Rattle.std.proofs.Common.{ℕ, ◌+◌, ◌*◌, ◌^◌, ◌<◌, ◌≤◌, ◌∙◌, cond, ap, sym, subst, arith, length, slice_index}
 use Rattle.std.proofs.Math.Nat.{mul-le-mul}
 use Rattle.ballot_base.specs.CandSet.{has_member}
 use Rattle.ballot_base.specs.Ballots.{Row}
@@ -7,16 +7,16 @@ use Rattle.ballot_base.proofs.Increasing.{IsIncreasing-higher}
 use Rattle.tie_walk.proofs.Distances.{ballot-found}
 use Rattle.row_multipliers.proofs.HitLemmas.{free-common}
 use Rattle.row_multipliers.proofs.SearchLemmas.{part-most}
-use Rattle.minimax_search.proofs.WeightedNeeds.{AreNeeds, turns-few, weighted-more, weighted-paid}
-use Rattle.minimax_search.proofs.weights.NeedSearchRowBound.constraint.Goals as goal
-use Rattle.minimax_search.proofs.weights.NeedSearchRowBound.constraint.Goals.{then-needed-gt0+then-weight-gt0, then-needed-gt0+else-weight-gt0, else-needed-gt0}
+use Rattle.minimax_search.proofs.WeightedNeeds.{AreNeeds, rows-few-enough, weighted-more, weighted-paid}
+use Rattle.minimax_search.proofs.weights.NeedSearch.constraint.Goals as goal
+use Rattle.minimax_search.proofs.weights.NeedSearch.constraint.Goals.{then-needed-gt0+then-weight-gt0, then-needed-gt0+else-weight-gt0, else-needed-gt0}
 
 pub still_needed-needed-requires : goal.still_needed-needed-requires
 still_needed-needed-requires g c =
     let e = c.args.self.now.profile.now in
-    let valid = c.rows-i-end.ensures.valid in
+    let valid = c.rows-rows.ensures.valid in
     record {
-      ballot = IsIncreasing-higher 1 e.m most_candidates c.row-ballot.result.0 valid.most (ballot-found e.m e.rows c.loop-i.i c.row-ballot.result valid.ballots c.row-ballot.ensures);
+      ballot = IsIncreasing-higher 1 e.m most_candidates c.row-ballot.result.0 valid.most (ballot-found e.m e.rows c.row.result c.row-ballot.result valid.ballots c.row-ballot.ensures);
       set = IsIncreasing-higher 1 e.m most_candidates c.args.node.now.set valid.most c.requires.is_node.set_within;
     }
 
@@ -28,38 +28,38 @@ product-most weight needed small few =
 
 pub overflow_add-needs : goal.overflow_add-needs
 overflow_add-needs g c =
-    let inv = c.loop-i.invariant in
-    let turn = turns-few c.args.self.now.profile.now c.loop-i.i c.row-ballot.result c.rows-i-end.ensures.valid c.row-ballot.ensures in
+    let inv = c.loop-place.invariant in
+    let turn : c.loop-place.place < 2 ^ 32 = omega (arith, c.loop-place-test.true, c.min-place-end.ensures, c.rows-rows.ensures.value, rows-few-enough c.args.self.now.profile.now c.rows-rows.ensures.valid) in
     let needed : c.from.result ≤ 255 = omega (arith, c.from.ensures) in
-    let most = product-most c.from-weight.result c.from.result (omega (arith, c.from-weight.ensures, c.weight.ensures)) needed in
+    let most = product-most c.from-weight.result c.from.result (omega (arith, c.from-weight.ensures, c.weight-then-needed-gt0.ensures)) needed in
     omega (arith, most, inv.small_total, turn)
 
 pub add-requires : goal.add-requires
 add-requires g c =
-    let inv = c.loop-i.invariant in
-    let turn = turns-few c.args.self.now.profile.now c.loop-i.i c.row-ballot.result c.rows-i-end.ensures.valid c.row-ballot.ensures in
-    record { fits = λ n. omega (arith, inv.small n, turn, c.from-weight.ensures, c.weight.ensures) }
+    let inv = c.loop-place.invariant in
+    let turn : c.loop-place.place < 2 ^ 32 = omega (arith, c.loop-place-test.true, c.min-place-end.ensures, c.rows-rows.ensures.value, rows-few-enough c.args.self.now.profile.now c.rows-rows.ensures.valid) in
+    record { fits = λ n. omega (arith, inv.small n, turn, c.from-weight.ensures, c.weight-then-needed-gt0.ensures) }
 
-pub loop-i-preserved : goal.loop-i-preserved
-loop-i-preserved g c =
+pub loop-place-preserved : goal.loop-place-preserved
+loop-place-preserved g c =
     let search = c.args.self.now in
     let e = search.profile.now in
     let node = c.args.node.now in
     let k = length node.set + node.left in
-    let before = c.loop-i.needs in
+    let before = c.loop-place.needs in
     let row : Row = c.row-ballot.result in
-    let inv = c.loop-i.invariant in
-    let AreSoFar = AreNeeds e search.most node (c.loop-i.i + 1) in
+    let inv = c.loop-place.invariant in
+    let AreSoFar = AreNeeds e search.most node (c.loop-place.place + 1) in
     elim c.if-needed-gt0.branch [
       | then-needed-gt0+then-weight-gt0 w ↦
           let few : w.from.result ≤ 255 = omega (arith, w.from.ensures) in
-          let slight : w.from-weight.result ≤ 2 ^ 62 = omega (arith, w.from-weight.ensures, w.weight.ensures) in
+          let slight : w.from-weight.result ≤ 2 ^ 62 = omega (arith, w.from-weight.ensures, w.weight-then-needed-gt0.ensures) in
           let added = product-most w.from-weight.result w.from.result slight few in
           subst AreSoFar (sym w.needs-is) record {
             unpaid = inv.unpaid;
             weighted =
-                weighted-more e k search.most node.set node.free before.due (before.due + w.from-weight.result * w.from.result) w.from-weight.result w.from.result before.worths w.add.new.self c.loop-i.i row
-                c.rows-i-end.ensures.valid.ballots c.row-ballot.ensures (omega (arith, w.from.ensures, c.still_needed-needed.ensures)) inv.weighted (omega arith)
+                weighted-more e k search.most node.set node.free before.due (before.due + w.from-weight.result * w.from.result) w.from-weight.result w.from.result before.worths w.add.new.self c.row.result row
+                c.rows-rows.ensures.valid.ballots c.row-ballot.ensures (omega (arith, w.from.ensures, c.still_needed-needed.ensures)) inv.weighted (omega arith)
                 (λ n is. w.add.ensures n
                 ∙ ap (λ l. slice_index before.worths n + cond (has_member l n) w.from-weight.result 0) w.common-approved.ensures
                 ∙ ap (λ b. slice_index before.worths n + cond b w.from-weight.result 0) (free-common row.0 node.free n is));
@@ -84,6 +84,6 @@ pub returns-clause-constraint : goal.returns-clause-constraint
 returns-clause-constraint g c committee whole reaches =
     let search = c.args.self.now in
     let node = c.args.node.now in
-    let needs = c.loop-i.needs in
-    let paid = weighted-paid search.profile.now search.most node.set node.free node.left needs.due needs.worths c.rows-i-end.ensures.valid.ballots c.requires.is_node c.loop-i.invariant.weighted committee whole reaches in
+    let needs = c.loop-place.needs in
+    let paid = weighted-paid search.profile.now search.most node.set node.free node.left needs.due needs.worths c.rows-rows.ensures.valid.ballots c.requires.is_node c.loop-place.invariant.weighted committee whole reaches in
     omega (arith, paid)
