@@ -43,11 +43,23 @@ pub worth-most : (step : Step) (e : Election) (weights set : List ℕ) (c most :
 worth-most step e weights set c most valid all =
     omega (arith, worth-whole step weights e.rows set c, all-most (share step weights set c) e most valid (λ r up. let more = weight-most weights (hits_of step (hits r.0 set)) most all in omega (arith, more, part-most (has_member r.0 c) (weight weights (hits_of step (hits r.0 set))))))
 
+-- a part of nothing is nothing
+nothing-of : {x : ℕ} (b : Bool) → x ≡ 0 → cond b x 0 ≡ 0
+nothing-of true none = none
+nothing-of false none = refl
+
 module _ (step : Step) (weights set : List ℕ) where
   pub partial-more : (rows : List Row) (i c : ℕ) (row : Row) → slice_get rows i ≡ Some row
       → partial step weights set c (take (i + 1) rows) ≡ partial step weights set c (take i rows) + cond (has_member row.0 c) (row.1 * weight weights (hits_of step (hits row.0 set))) 0
   partial-more rows i c row found =
       omega (arith, rows-more (share step weights set c) rows i row found, product-of-part (has_member row.0 c) row.1 (weight weights (hits_of step (hits row.0 set))))
+
+  -- a row whose voters give nothing leaves the sum as it was
+  pub partial-same : (rows : List Row) (i c : ℕ) (row : Row) → slice_get rows i ≡ Some row
+      → row.1 * weight weights (hits_of step (hits row.0 set)) ≡ 0
+      → partial step weights set c (take i rows) ≡ partial step weights set c (take (i + 1) rows)
+  partial-same rows i c row found none =
+      omega (arith, partial-more rows i c row found, nothing-of (has_member row.0 c) none)
 
   -- the sum so far and what the next row's voters give
   pub partial-fits : (e : Election) (most i c : ℕ) (row : Row) → IsElection e → ((j : ℕ) → get_or weights j 0 ≤ most) → slice_get e.rows i ≡ Some row
