@@ -37,7 +37,8 @@ use tie_walk::sequential::{Choices, FoundSets, Step, in_order};
 /// The most sets that a level may have. It and the level before take less than 64 MB then.
 const MOST_SETS: usize = 1 << 20;
 
-/// The most sets that a level may have if questions are answered without it, each in few steps.
+/// The most sets that a level may have if the ties of the start last through all choices. Then each question takes few
+/// steps, and levels would take up to millions of sets.
 const FEW_SETS: usize = 1 << 12;
 
 /// Where the choices from a set lead.
@@ -46,7 +47,7 @@ pub(crate) enum Ahead {
     Within(CandSet),
     /// Towards this end, which lies beyond all choices.
     Beyond(CandSet),
-    /// To what the tied candidates make, of clones only the first, who bring the best worth.
+    /// To a choice among others: the best worth, and the candidates who tie for it, of clones only the first.
     Choices(u128, CandSet),
 }
 

@@ -2,9 +2,10 @@
 //!
 //! Where a level has too many sets to be stored, each question about the winners is answered by a search of its own. It
 //! goes depth first from a set to what follows it in `levels`. A set is given up if nothing that is asked for lies
-//! between it and the set after all choices that can be made: these two are the ends of a family. Sets that lead to
-//! nothing are remembered, as far as there is room, so that they are not gone through twice. What is remembered and the
-//! order of choices only decide how soon a search ends.
+//! between it and the set after all choices that can be made: these two are the ends of a family. Where many candidates
+//! tie, one look at them may settle the question, or leave one choice (`Question::branches`). Sets that lead to nothing
+//! are remembered, as far as there is room, so that they are not gone through twice. What is remembered and the order
+//! of choices only decide how soon a search ends.
 ghost use Rattle.std.specs.Prelude.{◌≡◌, ◌≤◌, ◌-◌, ◌<◌, ◌++◌, ℕ, List, None, fold, [], ◌∷◌, Contains, true, false, ⊤, MatchOption, length};
 ghost use Rattle.ballot_base.specs.CandSet.{has_member, without_member};
 ghost use Rattle.ballot_base.specs.Lists.{IsIncreasing};
@@ -160,7 +161,7 @@ impl<A: Allocator + Copy + Drop> Question<'_, '_, A> {
         Some(next)
     }
 
-    /// The candidates who may be chosen: all but those whom the choice of would leave no committee that is asked for.
+    /// The candidates after whose choice a committee that is asked for can still be made.
     fn allowed(&self) -> CandSet {
         let Choices { profile, rule, .. } = &self.levels.choices;
         let after = CandSet::after(self.c, profile.m());
