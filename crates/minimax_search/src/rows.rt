@@ -7,7 +7,8 @@
 //!
 //! Any rows, with any weights, give a sound bound, and whole committees are valued by all rows. So nothing is proved of
 //! the order and the counts.
-ghost use Rattle.std.specs.Prelude.{ℕ, ◌^◌, ◌<◌, ◌≤◌};
+ghost use Rattle.std.specs.Prelude.{ℕ, ◌<◌, ◌≤◌};
+ghost use Rattle.row_multipliers.specs.Steps.Limits.{most_moved};
 
 use ballot_base::PLACES;
 use row_multipliers::multipliers::MOST_MOVED;
@@ -139,7 +140,7 @@ impl<A: Allocator> WeighedRows<A> {
 
     /// The weight of the row at a place.
     pub(crate) fn weight(&self, place: usize) -> u64
-        ensures { result ≤ 2 ^ 40 }
+        ensures { result ≤ most_moved }
     {
         match self.places.get(place) {
             Some(weighed) => weighed.get().weight.min(MOST_MOVED),

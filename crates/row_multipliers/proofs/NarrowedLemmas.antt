@@ -8,7 +8,8 @@ use Rattle.ballot_base.specs.Lists.{IsIncreasing}
 use Rattle.ballot_base.specs.Worths.{AreChosen, AreTooLow, AreWanted}
 use Rattle.ballot_base.proofs.Increasing.{IsIncreasing-higher, has_member-filter}
 use Rattle.row_multipliers.specs.Completions.{IsNode, IsCompletion, IsOutOfReach}
-use Rattle.row_multipliers.specs.Steps.Narrowed.{IsNarrowed}
+use Rattle.row_multipliers.specs.Steps.Narrowed.{IsNarrowed, Narrows}
+use Rattle.row_multipliers.specs.declared.node.Node.{Node}
 use Rattle.row_multipliers.proofs.CompletionLemmas.{added-free, added-increasing, added-size, or-more}
 use Rattle.row_multipliers.proofs.SearchLemmas.{none-left}
 
@@ -50,6 +51,12 @@ module _ (value : List ℕ → ℕ) (m : ℕ) (set free rest : List ℕ) (left l
 
   pub narrowed-out : IsOutOfReach value m set rest left least → IsOutOfReach value m set free left least
   narrowed-out none = none-left value m set left least free rest narrowed.kept none
+
+-- who can still join a node after a round
+pub narrowed-round : (value : List ℕ → ℕ) (m : ℕ) (node here : Node) (least : ℕ) → here.set ≡ node.set → here.left ≡ node.left → IsNarrowed value m node.set node.free node.left least here.free
+    → (answer : Option (List ℕ)) → Narrows value m here least answer → Narrows value m node least answer
+narrowed-round value m node here least set_is left_is narrowed None none = narrowed-out value m node.set node.free here.free node.left least narrowed (rw (set_is, left_is) at none)
+narrowed-round value m node here least set_is left_is narrowed (Some kept) fewer = narrowed-more value m node.set node.free here.free node.left least narrowed kept (rw (set_is, left_is) at fewer)
 
 -- who can still join a set for a value can include all who can for a higher one
 pub narrowed-later : (value : List ℕ → ℕ) (m : ℕ) (set free : List ℕ) (left least later : ℕ) (rest : List ℕ) → least ≤ later → IsNarrowed value m set free left least rest

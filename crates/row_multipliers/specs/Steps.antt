@@ -1,2 +1,3 @@
 pub mod Constraints
+pub mod Limits
 pub mod Narrowed

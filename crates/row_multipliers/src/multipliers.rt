@@ -64,8 +64,6 @@ pub struct Effort {
     /// The largest gap with which moving goes on after many rounds, or until the gap is as good as closed. If there is
     /// no such limit, moving ends as soon as the gap closes too slowly.
     pub large_gap: Option<u128>,
-    /// Whether moving ends with the multipliers whose gap was the smallest, and not with the last ones.
-    pub goes_back: bool,
 }
 
 /// A bound of a node. For each completion that reaches the value, `paid` plus the worths of the candidates that join is
@@ -156,6 +154,7 @@ pub struct Moved {
 }
 
 /// Moves the multipliers of a bound until no completion of the node reaches the value, or the gap closes too slowly.
+/// Then it goes back to the multipliers whose gap was the smallest.
 pub fn narrowed<B: RowBound, A: Allocator>(
     bound: &B,
     multipliers: &Multipliers<A>,
@@ -176,8 +175,8 @@ pub fn narrowed<B: RowBound, A: Allocator>(
         let best = constraint.best(&here);
         let gap = bound.gap(&constraint, best);
         match progress.next(gap, best) {
-            Next::Smaller if effort.goes_back => multipliers.keep(),
-            Next::Smaller | Next::Larger => {}
+            Next::Smaller => multipliers.keep(),
+            Next::Larger => {}
             Next::Back => multipliers.restore(),
             Next::End => break,
         }
@@ -187,9 +186,7 @@ pub fn narrowed<B: RowBound, A: Allocator>(
         }
         multipliers.step(progress.length(gap, square));
     }
-    if effort.goes_back {
-        multipliers.restore();
-    }
+    multipliers.restore();
     progress.end(Some(here.free))
 }
 

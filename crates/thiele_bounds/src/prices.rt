@@ -40,7 +40,6 @@ pub const NODE: Effort = Effort {
     least_pace: 20,
     patience: 4,
     large_gap: None,
-    goes_back: true,
 };
 
 /// The effort at the same node after a candidate has left.

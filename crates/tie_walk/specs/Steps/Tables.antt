@@ -1,5 +1,5 @@
 -- What tallies keep, and how they sum.
-use Rattle.std.specs.Prelude.{◌≡◌, ℕ, ◌+◌, ◌*◌, ◌/◌, ◌^◌, ◌≤◌, List, [], ◌∷◌, length, map, sum, sum_by, take, slice_index}
+use Rattle.std.specs.Prelude.{◌≡◌, ℕ, ◌+◌, ◌*◌, ◌/◌, ◌≤◌, List, [], ◌∷◌, length, map, sum, sum_by, take, slice_index}
 use Rattle.std.specs.List.{range_with_len}
 use Rattle.ballot_base.specs.Limits.{most_candidates, most_members, most_thiele_value}
 use Rattle.ballot_base.specs.Ballots.{Row, Election, IsElection}

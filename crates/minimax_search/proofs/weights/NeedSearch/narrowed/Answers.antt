@@ -1,16 +1,9 @@
-use Rattle.std.proofs.Common.{◌≡◌, ◌-◌, ℕ, List, Option, None, Some}
+use Rattle.std.proofs.Common.{◌≡◌, ◌-◌, None, Some}
 use Rattle.tie_walk.specs.Values.{closeness}
-use Rattle.row_multipliers.specs.Steps.Narrowed.{IsNarrowed, Narrows}
-use Rattle.row_multipliers.specs.declared.node.Node.{Node}
-use Rattle.row_multipliers.proofs.NarrowedLemmas.{narrowed-more, narrowed-out}
+use Rattle.row_multipliers.specs.Steps.Narrowed.{IsNarrowed}
+use Rattle.row_multipliers.proofs.NarrowedLemmas.{narrowed-round}
 use Rattle.minimax_search.proofs.weights.NeedSearch.narrowed.Goals as goal
 use Rattle.minimax_search.proofs.weights.NeedSearch.narrowed.Goals.{In-Some, else-loop-round-test, then-loop-round-test+in-Some+then-is_too_slow, then-loop-round-test+in-Some+else-is_too_slow+then-square-eq0}
-
--- who can still join after a round
-round : (value : List ℕ → ℕ) (m : ℕ) (node here : Node) (least : ℕ) → here.set ≡ node.set → here.left ≡ node.left → IsNarrowed value m node.set node.free node.left least here.free
-    → (answer : Option (List ℕ)) → Narrows value m here least answer → Narrows value m node least answer
-round value m node here least set_is left_is narrowed None none = narrowed-out value m node.set node.free here.free node.left least narrowed (rw (set_is, left_is) at none)
-round value m node here least set_is left_is narrowed (Some kept) fewer = narrowed-more value m node.set node.free here.free node.left least narrowed kept (rw (set_is, left_is) at fewer)
 
 -- those who can still join after a round, of those before it
 next : (g : _) (c : In-Some g) → IsNarrowed (closeness c.args.self.now.profile.now.m c.args.self.now.profile.now.rows) c.args.self.now.profile.now.m c.args.node.now.set c.args.node.now.free c.args.node.now.left
@@ -21,7 +14,7 @@ next g c =
     let least = e.m - c.args.self.now.most in
     let inv = c.loop-round.invariant in
     let needs = c.constraint-needs.ensures in
-    round V e.m c.args.node.now c.loop-round.here least inv.set inv.left inv.narrowed (Some c.in-Some.free)
+    narrowed-round V e.m c.args.node.now c.loop-round.here least inv.set inv.left inv.narrowed (Some c.in-Some.free)
     (c.in-Some.ensures V e.m least needs.most (rw inv.set inv.is_node) needs.constraint)
 
 pub returns-in_default : goal.returns-in_default
@@ -31,7 +24,7 @@ returns-in_default g c =
     let least = e.m - c.args.self.now.most in
     let inv = c.loop-round.invariant in
     let needs = c.constraint-needs.ensures in
-    rw c.end.ensures (round V e.m c.args.node.now c.loop-round.here least inv.set inv.left inv.narrowed None (c.in_default.ensures V e.m least needs.most (rw inv.set inv.is_node) needs.constraint))
+    rw c.end.ensures (narrowed-round V e.m c.args.node.now c.loop-round.here least inv.set inv.left inv.narrowed None (c.in_default.ensures V e.m least needs.most (rw inv.set inv.is_node) needs.constraint))
 
 pub aim-square-requires : goal.aim-square-requires
 aim-square-requires g c = record { is_node = rw c.loop-round.invariant.set (next g (goal.at.aim-square-requires g c).In-Some).is_node }
@@ -55,9 +48,9 @@ returns g c =
     let inv = c.loop-round.invariant in
     let all : IsNarrowed V e.m node.set node.free node.left least c.loop-round-test.here.free = elim c.loop-round-test.branch [
       | else-loop-round-test w ↦ rw w.here-is inv.narrowed
-      | then-loop-round-test+in-Some+then-is_too_slow w ↦ rw w.here-is (round V e.m node c.loop-round.here least inv.set inv.left inv.narrowed (Some w.in-Some.free)
+      | then-loop-round-test+in-Some+then-is_too_slow w ↦ rw w.here-is (narrowed-round V e.m node c.loop-round.here least inv.set inv.left inv.narrowed (Some w.in-Some.free)
           (w.in-Some.ensures V e.m least w.constraint-needs.ensures.most (rw inv.set inv.is_node) w.constraint-needs.ensures.constraint))
-      | then-loop-round-test+in-Some+else-is_too_slow+then-square-eq0 w ↦ rw w.here-is (round V e.m node c.loop-round.here least inv.set inv.left inv.narrowed (Some w.in-Some.free)
+      | then-loop-round-test+in-Some+else-is_too_slow+then-square-eq0 w ↦ rw w.here-is (narrowed-round V e.m node c.loop-round.here least inv.set inv.left inv.narrowed (Some w.in-Some.free)
           (w.in-Some.ensures V e.m least w.constraint-needs.ensures.most (rw inv.set inv.is_node) w.constraint-needs.ensures.constraint))
     ] in
     rw c.end-2.ensures all
