@@ -1,5 +1,5 @@
 -- The sets of a level as they are found, each once.
-use Rattle.std.proofs.Common.{◌≡◌, ℕ, ◌+◌, ◌<◌, ◌≤◌, ◌++◌, Bool, true, false, cond, List, [], ◌∷◌, sym, ap, ◌∙◌, subst, inl, inr, arith, length, take, get_or, Contains, Result, Ok, Err, IfOk, append_assoc, append-nil}
+use Rattle.std.proofs.Common.{◌≡◌, ℕ, ◌+◌, ◌<◌, ◌≤◌, ◌++◌, Bool, true, false, cond, List, [], ◌∷◌, sym, ap, ◌∙◌, subst, inl, inr, arith, length, take, get_or, Contains, append_assoc, append-nil}
 use Rattle.std.specs.List.{list_any, flat_map}
 use Rattle.std.specs.Str.{bytes_eq}
 use Rattle.std.proofs.lemmas.Bool.{cases_Bool}
@@ -82,8 +82,3 @@ module _ (make : List ℕ → List (List ℕ)) (level : List (List ℕ)) where
     where
       is : HasSetsOf (flat_map make level) found
       is = subst (λ l. HasSetsOf (flat_map make l) found) (take_all i level all) has
-
--- what a call answers, put in other words
-pub if_ok : {A E : Type 0} (P Q : A → Type 0) (result : Result A E) → ((x : A) → P x → Q x) → IfOk result P → IfOk result Q
-if_ok P Q (Ok x) next is = next x is
-if_ok P Q (Err e) next is = tt
