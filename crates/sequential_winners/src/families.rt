@@ -13,10 +13,11 @@ ghost use Rattle.tie_walk.specs.Sequences.{sequential_winners};
 ghost use Rattle.sequential_winners.specs.Clones.{clone_count, has_as_many};
 ghost use Rattle.sequential_winners.specs.Families.{sequential_of, is_winner, some_winner};
 ghost use Rattle.sequential_winners.specs.Steps.Families.{may_be_in};
-ghost use Rattle.sequential_winners.specs.Steps.Levels.{AreFamilies};
+ghost use Rattle.sequential_winners.specs.Steps.Levels.{AreFamilies, AreReached};
+ghost use Rattle.tie_walk.specs.Steps.Choices.{choices_of};
 ghost use Rattle.sequential_winners.specs.Steps.Tables.{completed};
 
-use crate::levels::Levels;
+use crate::levels::{Level, Levels};
 use crate::question::{MOST_DEAD, Question, forget};
 use ballot_base::{CandSet, Clones, Profile};
 use std::alloc::{AllocError, Allocator, Global};
@@ -25,6 +26,122 @@ use std::collections::HashSet;
 use std::marker::Model;
 use tie_walk::sequential::{Choices, FoundSets, Step};
 use tie_walk::{SeqRule, Tally};
+
+/// The most sets that a level may have. It and the one before take 35 MB then.
+const MOST_SETS: usize = 1 << 20;
+
+/// The most sets of the levels that are found before memory for more is taken. If the ties of the start last through
+/// all choices, no more are found: then each question takes few steps, and levels would take up to millions of sets.
+const FEW_SETS: usize = 1 << 12;
+
+/// All memory for the winners of a sequential rule, and the levels up to the first of more than `FEW_SETS` sets.
+/// Contracts see the election, the rule and `k`.
+#[derive(Drop)]
+pub struct FamilyMemory<'a, A: Allocator + Copy = Global> {
+    profile: &'a Profile<A>,
+    rule: SeqRule,
+    k: u8,
+    clones: Clones,
+    // The last level, with room for those to come, or `None` if a search answers each question.
+    level: Option<Level<A>>,
+    // Room for the other set of each family.
+    ends: Vec<CandSet, A>,
+    // Room for the sets that lead to nothing, if levels may have too many sets.
+    dead: Option<FoundSets<A>>,
+}
+
+impl<'a, A: Allocator + Copy> Model for FamilyMemory<'a, A> {
+    ghost use Rattle.std.specs.Prelude.{⊤, MatchOption};
+    ghost use Rattle.tie_walk.specs.Steps.Choices.{choices_of};
+    ghost use Rattle.sequential_winners.specs.Families.{Sequential, sequential_of};
+    ghost use Rattle.sequential_winners.specs.Steps.Families.{KeepsElection};
+    ghost use Rattle.sequential_winners.specs.Steps.Levels.{AreReached};
+
+    ghost Value = { Sequential };
+
+    ghost view = { λ f. sequential_of f.profile.now f.rule f.k };
+
+    ghost invariant = { λ f. KeepsElection f.profile.now f.rule f.k f.clones
+        × MatchOption f.level ⊤ (λ l. AreReached f.rule f.profile.now (choices_of f.rule f.profile.now.m f.k)
+        l.size l.sets.items) };
+}
+
+impl<'a, A: Allocator + Copy + Drop> FamilyMemory<'a, A> {
+    /// Memory for the winning committees of size `k`. It is less than 64 MB, and little if few candidates tie. A failed
+    /// allocation leaves nothing.
+    pub fn new(
+        alloc: A,
+        profile: &'a Profile<A>,
+        rule: SeqRule,
+        k: u8,
+    ) -> Result<FamilyMemory<'a, A>, AllocError>
+        requires some { 1 ≤ k }
+        requires fits { k ≤ profile.now.m }
+        ensures { IfOk result (λ memory. memory ≡ sequential_of profile.now rule k) }
+    {
+        let clones = Clones::of(profile);
+        let levels = Levels {
+            choices: Choices::new(profile, rule),
+            clones: &clones,
+        };
+        let total = rule.choices(profile.m(), k);
+        let mut level = Level::first(alloc, rule.step().start(profile.m()))?;
+        levels.go_on(&mut level, total, FEW_SETS)?;
+        let mut ends = Vec::new(alloc);
+        if level.size == total {
+            ends.reserve_exact(level.sets.len())?;
+            return Ok(FamilyMemory {
+                profile,
+                rule,
+                k,
+                clones,
+                level: Some(level),
+                ends,
+                dead: None,
+            });
+        }
+        if levels.has_lasting_ties(total) {
+            return FamilyMemory::for_searches(alloc, profile, rule, k);
+        }
+        level.reserve(MOST_SETS)?;
+        ends.reserve_exact(MOST_SETS)?;
+        let dead = HashSet::with_capacity(alloc, MOST_DEAD)?;
+        Ok(FamilyMemory {
+            profile,
+            rule,
+            k,
+            clones,
+            level: Some(level),
+            ends,
+            dead: Some(dead),
+        })
+    }
+
+    /// Like `new`, but with memory for searches only: no families will be stored, whether or not there are few.
+    pub fn for_searches(
+        alloc: A,
+        profile: &'a Profile<A>,
+        rule: SeqRule,
+        k: u8,
+    ) -> Result<FamilyMemory<'a, A>, AllocError>
+        requires some { 1 ≤ k }
+        requires fits { k ≤ profile.now.m }
+        ensures { IfOk result (λ memory. memory ≡ sequential_of profile.now rule k) }
+    {
+        let clones = Clones::of(profile);
+        let dead = HashSet::with_capacity(alloc, MOST_DEAD)?;
+        profile.m();
+        Ok(FamilyMemory {
+            profile,
+            rule,
+            k,
+            clones,
+            level: None,
+            ends: Vec::new(alloc),
+            dead: Some(dead),
+        })
+    }
+}
 
 /// The committees of size `k` that some sequence of choices of a sequential rule makes, as families. A family is a pair
 /// of sets. It has the committees of size `k` with at least as many members of each class of clones as its first set,
@@ -67,27 +184,61 @@ impl<'a, A: Allocator + Copy> Model for Families<'a, A> {
 }
 
 impl<'a, A: Allocator + Copy + Drop> Families<'a, A> {
-    /// The families of the winning committees of size `k`. They take less than 64 MB, and 5 MB if they are not stored.
-    /// A failed allocation leaves nothing.
-    pub fn new(
-        alloc: A,
-        profile: &'a Profile<A>,
-        rule: SeqRule,
-        k: u8,
-    ) -> Result<Families<'a, A>, AllocError>
-        requires some { 1 ≤ k }
-        requires fits { k ≤ profile.now.m }
-        ensures { IfOk result (λ families. families ≡ sequential_of profile.now rule k) }
+    /// The families of the winning committees, in this memory. Neither this nor a question takes more.
+    pub fn new(memory: FamilyMemory<'a, A>) -> Families<'a, A>
+        ensures { result ≡ memory.entry }
     {
-        let clones = Clones::of(profile);
+        let FamilyMemory {
+            profile,
+            rule,
+            k,
+            clones,
+            level,
+            ends,
+            dead,
+        } = memory;
         let levels = Levels {
             choices: Choices::new(profile, rule),
             clones: &clones,
         };
-        let Some(sets) = levels.reached_families(alloc, rule.choices(profile.m(), k))? else {
-            return Families::searched(alloc, profile, rule, k);
+        let stored = match level {
+            Some(level) => Stored::of(&levels, k, level, ends).unwrap_or(None),
+            None => None,
         };
-        let mut ends = Vec::with_capacity(alloc, sets.len())?;
+        Families {
+            profile,
+            rule,
+            k,
+            clones,
+            stored,
+            dead: Cell::new(dead),
+            last: Cell::new(CandSet::empty()),
+        }
+    }
+}
+
+impl<A: Allocator + Copy + Drop> Stored<A> {
+    /// The families of `k`, from a level on, or `None` if a level on the way has more than `MOST_SETS` sets.
+    fn of(
+        levels: &Levels<'_, A>,
+        k: u8,
+        mut level: Level<A>,
+        mut ends: Vec<CandSet, A>,
+    ) -> Result<Option<Stored<A>>, AllocError>
+        requires fits { k ≤ levels.now.choices.profile.now.m }
+        requires level { AreReached levels.now.choices.rule levels.now.choices.profile.now
+            (choices_of levels.now.choices.rule levels.now.choices.profile.now.m k) level.size level.sets.items }
+        ensures { IfOk result (λ stored. MatchOption stored ⊤ (λ s. AreFamilies levels.now.choices.rule
+            levels.now.choices.profile.now k s.leasts.items s.mosts.items)) }
+    {
+        let Choices { profile, rule, .. } = &levels.choices;
+        let total = rule.choices(profile.m(), k);
+        levels.go_on(&mut level, total, MOST_SETS)?;
+        if level.size != total {
+            return Ok(None);
+        }
+        let sets = level.sets;
+        ends.clear();
         for set in &sets {
             let end = if set.len() == k {
                 None
@@ -100,40 +251,7 @@ impl<'a, A: Allocator + Copy + Drop> Families<'a, A> {
             Step::Grow => (sets, ends),
             Step::Shrink => (ends, sets),
         };
-        Ok(Families {
-            profile,
-            rule,
-            k,
-            clones,
-            stored: Some(Stored { leasts, mosts }),
-            dead: Cell::new(None),
-            last: Cell::new(CandSet::empty()),
-        })
-    }
-
-    /// Like `new`, but stores no families, whether or not there are few.
-    pub fn searched(
-        alloc: A,
-        profile: &'a Profile<A>,
-        rule: SeqRule,
-        k: u8,
-    ) -> Result<Families<'a, A>, AllocError>
-        requires some { 1 ≤ k }
-        requires fits { k ≤ profile.now.m }
-        ensures { IfOk result (λ families. families ≡ sequential_of profile.now rule k) }
-    {
-        let clones = Clones::of(profile);
-        let dead = HashSet::with_capacity(alloc, MOST_DEAD)?;
-        profile.m();
-        Ok(Families {
-            profile,
-            rule,
-            k,
-            clones,
-            stored: None,
-            dead: Cell::new(Some(dead)),
-            last: Cell::new(CandSet::empty()),
-        })
+        Ok(Some(Stored { leasts, mosts }))
     }
 }
 

@@ -19,27 +19,20 @@
 //! good, and stands for all sets between the two. `proofs/LevelLemmas.antt` shows, by induction over levels, that the
 //! choices still to be made lead from the sets of a level to exactly the committees that some sequence of choices
 //! makes.
-ghost use Rattle.std.specs.Prelude.{◌≡◌, ℕ, ◌≤◌, ◌++◌, ◌&&◌, nat_lt, true, None, ⊤, IfOk, MatchOption, OnOk};
-ghost use Rattle.std.specs.List.{AllByRecursion};
+ghost use Rattle.std.specs.Prelude.{◌≡◌, ℕ, ◌≤◌, ◌++◌, ◌∷◌, [], ◌&&◌, nat_lt, true, None, IfOk, OnOk};
 ghost use Rattle.ballot_base.specs.Clones.{AreClones};
 ghost use Rattle.ballot_base.specs.CandSet.{has_member};
 ghost use Rattle.ballot_base.specs.Limits.{most_candidates};
 ghost use Rattle.ballot_base.specs.Lists.{IsIncreasing};
 ghost use Rattle.tie_walk.specs.Steps.Choices.{best_worth, tied_by, HasSetsOf};
-ghost use Rattle.sequential_winners.specs.Steps.Levels.{ties_by, next_hit_by, given_by, near_by, beginners_by, AreApartBy, HasEnoughTiedBy, end_by, followers_by, AreFollowing, AreReached};
+ghost use Rattle.sequential_winners.specs.Steps.Levels.{ties_by, next_hit_by, given_by, near_by, beginners_by, AreApartBy, HasEnoughTiedBy, end_by, followers_by, AreReached};
 ghost use Rattle.sequential_winners.specs.Steps.Questions.{LeadsAhead};
 
-use ballot_base::{CandSet, Clones};
+use crate::question::forget;
+use ballot_base::{CandSet, Clones, PLACES};
 use std::alloc::{AllocError, Allocator};
 use std::collections::HashSet;
-use tie_walk::sequential::{Choices, FoundSets, Step, in_order};
-
-/// The most sets that a level may have. It and the level before take less than 64 MB then.
-const MOST_SETS: usize = 1 << 20;
-
-/// The most sets that a level may have if the ties of the start last through all choices. Then each question takes few
-/// steps, and levels would take up to millions of sets.
-const FEW_SETS: usize = 1 << 12;
+use tie_walk::sequential::{Choices, FoundSets, Step, put_in_order};
 
 /// Where the choices from a set lead.
 pub(crate) enum Ahead {
@@ -254,62 +247,98 @@ impl<A: Allocator + Copy + Drop> Levels<'_, A> {
         Ok(())
     }
 
-    /// The level after level `size`, of those for `total` choices, or `None` if it has more than `MOST_SETS` sets.
-    fn next_level(
-        &self,
-        alloc: A,
-        total: u8,
-        size: u8,
-        level: &[CandSet],
-    ) -> Result<Option<Vec<CandSet, A>>, AllocError>
-        requires { AllByRecursion (λ set. IsIncreasing 1 self.now.choices.profile.now.m set) level.now }
-        ensures { IfOk result (λ next. MatchOption next ⊤ (λ sets. AreFollowing
-            self.now.choices.rule self.now.choices.profile.now total size level.now sets.items)) }
+    /// Puts the level after a level, of those for `total` choices, in its place. Returns whether it did: the level of all
+    /// choices stays, and so does one that more than `most` sets follow.
+    fn advance(&self, level: &mut Level<A>, total: u8, most: usize) -> Result<bool, AllocError>
+        requires total { total ≤ self.now.choices.profile.now.m }
+        requires level { AreReached self.now.choices.rule self.now.choices.profile.now total level.old.size
+            level.old.sets.items }
+        ensures { OnOk result (AreReached self.now.choices.rule self.now.choices.profile.now total level.new.size
+            level.new.sets.items) }
     {
         let Choices { profile, rule, .. } = &self.choices;
-        let mut found = HashSet::new(alloc);
-        for set in level {
-            if rule.choices(profile.m(), set.len()) == size {
-                self.follow(&mut found, *set, total)?;
+        let Level { size, sets, found } = level;
+        if *size >= total {
+            return Ok(false);
+        }
+        let m = profile.m();
+        forget(found);
+        for set in sets.iter() {
+            if rule.choices(m, set.len()) == *size {
+                self.follow(found, *set, total)?;
             } else {
                 found.insert(*set)?;
             }
-            if found.len() > MOST_SETS {
-                return Ok(None);
+            if found.len() > most {
+                return Ok(false);
             }
         }
-        let sets = in_order(alloc, &found)?;
-        Ok(Some(sets))
+        put_in_order(sets, found)?;
+        *size += 1;
+        Ok(true)
     }
 
-    /// Whether so many candidates tie that each of `left` choices is made among them.
-    fn has_lasting_ties(&self, set: CandSet, left: u8) -> bool {
-        let (_best, ties, end) = self.ties_and_end(set);
-        end.is_none() && left <= ties.len() && self.has_enough_tied(set, ties, left)
-    }
-
-    /// The families that `total` choices make, or `None` if a level on the way has more than `MOST_SETS` sets.
-    pub(crate) fn reached_families(
+    /// Goes on to the level of all `total` choices, or to the last one before a level of more than `most` sets.
+    pub(crate) fn go_on(
         &self,
-        alloc: A,
+        level: &mut Level<A>,
         total: u8,
-    ) -> Result<Option<Vec<CandSet, A>>, AllocError>
-        requires { total ≤ self.now.choices.profile.now.m }
-        ensures { IfOk result (λ families. MatchOption families ⊤ (λ sets.
-            AreReached self.now.choices.rule self.now.choices.profile.now total total sets.items)) }
+        most: usize,
+    ) -> Result<(), AllocError>
+        requires total { total ≤ self.now.choices.profile.now.m }
+        requires level { AreReached self.now.choices.rule self.now.choices.profile.now total level.old.size
+            level.old.sets.items }
+        ensures { OnOk result (AreReached self.now.choices.rule self.now.choices.profile.now total level.new.size
+            level.new.sets.items) }
     {
-        let start = self.choices.rule.step().start(self.choices.profile.m());
-        let is_quick = self.has_lasting_ties(start, total);
-        let mut level = vec![in alloc; start]?;
-        for done in 0..total {
-            let Some(next) = self.next_level(alloc, total, done, &level)? else {
-                return Ok(None);
-            };
-            level = next;
-            if level.len() > FEW_SETS && is_quick {
-                return Ok(None);
+        for _choice in 0..total {
+            if !self.advance(level, total, most)? {
+                break;
             }
         }
-        Ok(Some(level))
+        Ok(())
+    }
+
+    /// Whether so many candidates tie at the start that each of `total` choices is made among them.
+    pub(crate) fn has_lasting_ties(&self, total: u8) -> bool {
+        let start = self.choices.rule.step().start(self.choices.profile.m());
+        let (_best, ties, end) = self.ties_and_end(start);
+        end.is_none() && total <= ties.len() && self.has_enough_tied(start, ties, total)
+    }
+}
+
+/// The sets of a level, and room for those of the next one.
+#[derive(Drop)]
+pub(crate) struct Level<A: Allocator + Copy> {
+    /// The number of choices that lead to its sets. Sets that wait have more, and sets that stay for good may have
+    /// fewer.
+    pub(crate) size: u8,
+    /// In lexicographic order.
+    pub(crate) sets: Vec<CandSet, A>,
+    found: FoundSets<A>,
+}
+
+impl<A: Allocator + Copy + Drop> Level<A> {
+    /// The level before all choices, of `start` alone.
+    pub(crate) fn first(alloc: A, start: CandSet) -> Result<Level<A>, AllocError>
+        ensures { IfOk result (λ level. (level.size ≡ 0) × (level.sets.items ≡ start ∷ [])) }
+    {
+        Ok(Level {
+            size: 0,
+            sets: vec![in alloc; start]?,
+            found: HashSet::new(alloc),
+        })
+    }
+
+    /// Takes room for levels of `most` sets.
+    pub(crate) fn reserve(&mut self, most: usize) -> Result<(), AllocError>
+        ensures size { self.new.size ≡ self.old.size }
+        ensures sets { self.new.sets.items ≡ self.old.sets.items }
+    {
+        forget(&mut self.found);
+        // What follows a set may come on top.
+        self.found.reserve(most.saturating_add(PLACES))?;
+        self.sets
+            .reserve_exact(most.saturating_sub(self.sets.len()))
     }
 }

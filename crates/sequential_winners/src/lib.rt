@@ -11,5 +11,5 @@ mod levels;
 mod question;
 mod winners;
 
-pub use families::Families;
+pub use families::{Families, FamilyMemory};
 pub use winners::FamilyWinners;

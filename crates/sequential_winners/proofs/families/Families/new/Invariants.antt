@@ -1,7 +1,0 @@
-use Rattle.std.proofs.Common.{◌≡◌, map, take}
-use Rattle.sequential_winners.specs.Steps.Levels.{other_end_by}
-use Rattle.sequential_winners.proofs.families.Families.new.Given as goal
-
--- the other ends of the families so far
-abbrev pub invariant-loop-set : goal.invariant-loop-set
-invariant-loop-set g l = l.ends.items ≡ map (other_end_by l.rule l.profile l.k) (take l.set-index l.set-items)
