@@ -20,7 +20,7 @@ use crate::starts::committee_start;
 use ballot_base::{CandSet, Profile, common_multiple};
 use itoa::Buffer;
 use request_words::{Electing, Rule, ScoredRule};
-use sequential_winners::{Families, FamilyWinners};
+use sequential_winners::{Families, FamilyMemory, FamilyWinners};
 use std::alloc::Allocator;
 use text_output::{Names, Printer, Sink, WriteFailed, write_pieces};
 use tie_search::{SearchWinners, Searchable};
@@ -196,15 +196,16 @@ impl<'a, A: Allocator + Copy + Drop> Listing<'a, A> {
     pub(crate) fn write_families<W: Sink>(
         &self,
         out: &mut W,
-        families: &Families<'_, A>,
+        memory: FamilyMemory<'_, A>,
         _sent: RuleSent,
     ) -> Result<(), WriteFailed>
-        requires { IsStart families.now.election.m families.now.k self.now.after }
+        requires { IsStart memory.election.m memory.k self.now.after }
         ensures { SendsAll W.contents (calls_of W.has_failed W.flushes) out.old out.new (is_ok result)
             (answers_text (committee_line self.now.names) self.now.limit (later_than self.now.after
-            (sequential_winners families.now.rule families.now.election families.now.k))) }
+            (sequential_winners memory.rule memory.election memory.k))) }
     {
-        let mut winners = FamilyWinners::new(families, self.after);
+        let families = Families::new(memory);
+        let mut winners = FamilyWinners::new(&families, self.after);
         let mut printer = Printer::new(out);
         self.page().print(&mut printer, &mut winners)
     }

@@ -17,7 +17,7 @@ use crate::refusal::Refusal;
 use ballot_base::ThieleRule;
 use minimax_search::MinimaxSearch;
 use request_words::{Rule, ScoredRule};
-use sequential_winners::Families;
+use sequential_winners::FamilyMemory;
 use std::alloc::{AllocError, Allocator};
 use text_output::Sink;
 use thiele_search::{SearchMemory, ThieleSearch};
@@ -143,8 +143,8 @@ fn answer_sequential<A: Allocator + Copy + Drop, W: Sink>(
     ensures { WritesText W.contents (calls_of W.has_failed W.flushes) out.old out.new result
         (listed_text listing.now (Rule.Sequential rule)) }
 {
-    let families = Families::new(alloc, listing.profile, rule, listing.size)?;
+    let memory = FamilyMemory::new(alloc, listing.profile, rule, listing.size)?;
     let sent = listing.write_rule(out, Rule::Sequential(rule))?;
-    listing.write_families(out, &families, sent)?;
+    listing.write_families(out, memory, sent)?;
     Ok(Outcome::Answered)
 }

@@ -7,7 +7,7 @@ ghost use Rattle.tie_walk.specs.Winners.{IsStart};
 
 use super::support::{ballot_of, election_of, next_word};
 use ballot_base::{CandSet, KSets, MOST_CANDIDATES, Profile};
-use sequential_winners::{Families, FamilyWinners};
+use sequential_winners::{Families, FamilyMemory, FamilyWinners};
 use std::alloc::Global;
 use std::process::Abort;
 use tie_walk::{SeqRule, SeqWinners};
@@ -24,7 +24,8 @@ fn families_of<'a>(
     requires fits { k ≤ profile.now.m }
     ensures { result ≡ sequential_of profile.now rule k }
 {
-    Families::new(alloc, profile, rule, k).expect(rt, "families")
+    let memory = FamilyMemory::new(alloc, profile, rule, k).expect(rt, "memory");
+    Families::new(memory)
 }
 
 /// Asserts that both find the same winners, those later than the start or all of them.
@@ -181,7 +182,8 @@ fn ties_after_each_start(rt: HostRuntime) {
 fn assert_searched(rt: &impl Abort, alloc: Global, profile: &Profile) {
     for rule in &SeqRule::ALL {
         for k in 1..profile.m() + 1 {
-            let families = Families::searched(alloc, profile, *rule, k).expect(rt, "families");
+            let memory = FamilyMemory::for_searches(alloc, profile, *rule, k).expect(rt, "memory");
+            let families = Families::new(memory);
             let wanted = SeqWinners::new(alloc, profile, *rule, k, None).expect(rt, "levels");
             let found = FamilyWinners::new(&families, None);
             assert!(rt; found.eq(wanted), "{rule:?}: {k}");
