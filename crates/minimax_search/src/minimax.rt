@@ -13,6 +13,7 @@ use crate::weights::Shares;
 use ballot_base::{CandSet, Clones, Profile};
 use row_multipliers::{Moves, Node};
 use std::alloc::{AllocError, Allocator, Global};
+use std::cell::Cell;
 use std::marker::Model;
 use tie_search::descent::GivenUp;
 use tie_search::{Searchable, Tied, WithClones, descent};
@@ -28,6 +29,8 @@ pub struct MinimaxSearch<'a, A: Allocator + Copy = Global> {
     pub(crate) rows: WeighedRows<A>,
     // Where it pays to move weights, over all questions so far.
     pub(crate) moves: Moves,
+    // The committee that was found last.
+    found: Cell<CandSet>,
 }
 
 impl<'a, A: Allocator + Copy> Model for MinimaxSearch<'a, A> {
@@ -58,11 +61,24 @@ impl<'a, A: Allocator + Copy + Drop> MinimaxSearch<'a, A> {
             shares: Shares::equal(),
             rows: WeighedRows::of(alloc, profile.rows())?,
             moves: Moves::new(ROUND),
+            found: Cell::new(CandSet::empty()),
         })
     }
 }
 
 impl<A: Allocator + Copy> MinimaxSearch<'_, A> {
+    /// A committee that a walk has reached, from which no ballot is farther than `most`. If the node's set is empty, a
+    /// second walk begins with the committee that was found last. Without it, one of eleven elections with ten
+    /// parties took eight times as long, and one with five parties over forty times. The caller tests the committee, so
+    /// any set would do.
+    fn walked(&self, node: &Node, most: u8) -> Option<CandSet> {
+        let members = Walk::from(self.profile, node, CandSet::empty()).reaching(most);
+        if members.is_some() || !node.set.is_empty() {
+            return members;
+        }
+        Walk::from(self.profile, node, self.found.get()).reaching(most)
+    }
+
     /// A completion of a node that a walk has reached, whose value is at least `least`. There may be others.
     fn reached(&self, node: &Node, least: u128) -> Option<CandSet>
         requires is_node { IsNode self.now.m node.now.set node.now.free }
@@ -73,7 +89,7 @@ impl<A: Allocator + Copy> MinimaxSearch<'_, A> {
         if least > u128::from(m) {
             return None;
         }
-        let members = Walk::from(self.profile, node).reaching(m - least as u8)?;
+        let members = self.walked(node, m - least as u8)?;
         let committee = node.set.union(node.free.common(members));
         let size = u16::from(node.set.len()) + u16::from(node.left);
         if u16::from(committee.len()) != size {
@@ -114,18 +130,23 @@ impl<'a, A: Allocator + Copy> WithClones for MinimaxSearch<'a, A> {
 impl<'a, A: Allocator + Copy> Searchable for MinimaxSearch<'a, A> {
     fn good_committee(&self, k: u8) -> Option<CandSet> {
         let committee = CandSet::all(self.m()).common(near_committee(self.profile, k));
+        self.found.set(committee);
         (committee.len() == k).then_some(committee)
     }
 
     fn find(&self, node: &Node, least: u128) -> Option<CandSet> {
         self.rows.begin(node.left);
-        match descent::find_within(self, *node, least, SHORT_SEARCH) {
+        let found = match descent::find_within(self, *node, least, SHORT_SEARCH) {
             Ok(found) => found,
             Err(GivenUp) => match self.reached(node, least) {
                 Some(committee) => Some(committee),
                 None => descent::find(self, *node, least),
             },
+        };
+        if let Some(committee) = found {
+            self.found.set(committee);
         }
+        found
     }
 
     // Thousands of committees tie under this rule. Listing them took up to four times the instructions until the first

@@ -31,18 +31,15 @@ pub(crate) struct Walk<'a, A: Allocator + Copy> {
 }
 
 impl<'a, A: Allocator + Copy> Walk<'a, A> {
-    /// Begins with the set of a node and the first of the free candidates.
-    pub(crate) fn from(profile: &'a Profile<A>, node: &Node) -> Walk<'a, A> {
-        let mut others = node.free;
-        for _joined in 0..node.left {
-            if let Some((_first, rest)) = others.split_first() {
-                others = rest;
-            }
-        }
+    /// Begins with the set of a node, and with free candidates: the first members of `like`, and then the first others.
+    pub(crate) fn from(profile: &'a Profile<A>, node: &Node, like: CandSet) -> Walk<'a, A> {
+        let kept = first_of(node.free.common(like), node.left);
+        let missing = node.left.saturating_sub(kept.len());
+        let others = first_of(node.free.minus(kept), missing);
         Walk {
             profile,
             free: node.free,
-            committee: node.set.union(node.free.minus(others)),
+            committee: node.set.union(kept).union(others),
             resting: CandSet::empty(),
             random: Random::new(),
         }
@@ -94,6 +91,17 @@ impl<'a, A: Allocator + Copy> Walk<'a, A> {
             self.resting = leaving.union(joining);
         }
     }
+}
+
+/// The first `count` members of the set, or all of them if there are fewer.
+fn first_of(set: CandSet, count: u8) -> CandSet {
+    let mut others = set;
+    for _taken in 0..count {
+        if let Some((_first, rest)) = others.split_first() {
+            others = rest;
+        }
+    }
+    set.minus(others)
 }
 
 /// Wishes of ballots, by candidate.

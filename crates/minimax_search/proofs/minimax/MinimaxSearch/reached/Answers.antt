@@ -41,7 +41,7 @@ returns g c =
     let committee = c.union-committee.result in
     let joins : committee ≡ either_members node.set (common_members node.free c.in_ok-members.members) = c.union-committee.ensures ∙ ap (either_members node.set) c.common.ensures in
     let size : length committee ≡ length node.set + node.left =
-    omega (arith, c.if-from-size.false, c.len.ensures.count, c.len-2.ensures.count, c.from-3.ensures, c.from-4.ensures, c.from-5.ensures) in
+    omega (arith, c.if-from-size.false, c.len.ensures.count, c.len-2.ensures.count, c.from-2.ensures, c.from-3.ensures, c.from-4.ensures) in
     rw c.then_some.ensures (if-true (IsReaching (closeness e.m e.rows) e.m node.set node.free node.left c.args.least) _ committee (λ is. record {
       completes = rw joins (joined-completes e.m node.set node.free c.in_ok-members.members c.requires.is_node node.left (rw joins at size));
       reaches = omega (arith, leb-true c.args.least c.value.result is, c.value.ensures);
