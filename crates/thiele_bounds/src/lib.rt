@@ -8,7 +8,9 @@ pub mod laws;
 pub mod majorant;
 pub mod pairs;
 pub mod prices;
+pub mod triples;
 
 pub use majorant::{HitSums, Shape};
 pub use pairs::PairSearch;
 pub use prices::{AGAIN, NODE, PriceSearch, Priced};
+pub use triples::TripleSearch;

@@ -1,0 +1,2 @@
+-- What is kept for triples of members.
+use Rattle.std.specs.Prelude.{ℕ}
