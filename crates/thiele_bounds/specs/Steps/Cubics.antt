@@ -1,5 +1,5 @@
 -- Cubic majorants of what a voter gives, each by the hits before and by how many free candidates the voter approves.
-use Rattle.std.specs.Prelude.{ℕ, zero, suc, ◌+◌, ◌-◌, ◌*◌, ◌/◌, List, length, max, min, slice_index}
+use Rattle.std.specs.Prelude.{ℕ, zero, suc, ◌+◌, ◌-◌, ◌*◌, ◌/◌, ◌≤◌, List, length, max, min, slice_index}
 use Rattle.ballot_base.specs.Ballots.{Row, hits}
 use Rattle.thiele_bounds.specs.Steps.Paired.{most_sum}
 
@@ -31,6 +31,12 @@ overlap_of sums before touch =
 
 abbrev pub triple_at : List ℕ → ℕ → ℕ → ℕ
 triple_at sums before touch = bend_at sums (contact before touch) / 6
+
+-- no number of a cubic is too large beside what all hits give
+pub record IsSmallCubic (all_give worth overlap triple : ℕ) : Type 0 where
+  pub worth_small : worth ≤ all_give
+  pub overlap_small : overlap ≤ all_give
+  pub triple_small : 6 * triple ≤ all_give
 
 -- what a cubic without a constant lacks with this many further hits
 abbrev pub lack : List ℕ → ℕ → ℕ → ℕ → ℕ → ℕ → ℕ
