@@ -23,14 +23,18 @@ use Rattle.thiele_bounds.proofs.PairBounds.TripleLemmas.{part}
 
 -- ---- one cubic
 
+highest-suc : (number : ℕ → ℕ) (n : ℕ) → highest number (suc n) ≡ max (number n) (highest number n)
+unfolding highest
+highest-suc number n = refl
+
 pub highest-next : (number : ℕ → ℕ) (n : ℕ) → highest number (n + 1) ≡ max (number n) (highest number n)
-highest-next number n = ap (highest number) (let next : n + 1 ≡ suc n = omega arith in next)
+highest-next number n = ap (highest number) (let next : n + 1 ≡ suc n = omega arith in next) ∙ highest-suc number n
 
 pub highest-above : (number : ℕ → ℕ) (n h : ℕ) → h < n → number h ≤ highest number n
 highest-above number zero h few = absurd (omega (arith, few))
 highest-above number (suc n) h few = elim (cases_lt h n) [
-  | inl low ↦ omega (arith, highest-above number n h low)
-  | inr high ↦ let same : h ≡ n = omega (arith, few, high) in omega (arith, ap number same)
+  | inl low ↦ omega (arith, highest-above number n h low, highest-suc number n)
+  | inr high ↦ let same : h ≡ n = omega (arith, few, high) in omega (arith, ap number same, highest-suc number n)
 ]
 
 pub increment-small : (sums : List ℕ) → AreSmallSums sums → (hits : ℕ) → hits ≤ 63 → increment_at sums hits ≤ most_sum sums
@@ -72,11 +76,12 @@ cubics-are weights sums scale unit m set free left most is_node are (row ∷ row
 -- a sum over some rows
 filter-sum : (f : Row → ℕ) (p : Row → Bool) (rows : List Row) → sum_by f (filter p rows) ≡ sum_by (λ (r : Row). cond (p r) (f r) 0) rows
 filter-sum f p [] = refl
-filter-sum f p (row ∷ rows) = omega (arith, head (p row), sum_by-cons (λ (r : Row). cond (p r) (f r) 0) row rows)
+filter-sum f p (row ∷ rows) = omega (arith, head (p row) (filter-sum f p rows), sum_by-cons (λ (r : Row). cond (p r) (f r) 0) row rows)
   where
-    head : (b : Bool) → sum_by f (cond b (row ∷ filter p rows) (filter p rows)) ≡ cond b (f row) 0 + sum_by (λ (r : Row). cond (p r) (f r) 0) rows
-    head true = omega (arith, sum_by-cons f row (filter p rows), filter-sum f p rows)
-    head false = omega (arith, filter-sum f p rows)
+    head : (b : Bool) → sum_by f (filter p rows) ≡ sum_by (λ (r : Row). cond (p r) (f r) 0) rows
+        → sum_by f (cond b (row ∷ filter p rows) (filter p rows)) ≡ cond b (f row) 0 + sum_by (λ (r : Row). cond (p r) (f r) 0) rows
+    head true rest = omega (arith, sum_by-cons f row (filter p rows), rest)
+    head false rest = omega (arith, rest)
 
 worth-sum : (worth : Row → ℕ) (rows : List Row) (n : ℕ) → all_worth worth rows n ≡ sum_by (λ (r : Row). cond (has_member r.0 n) (r.1 * worth r) 0) rows
 worth-sum worth rows n = filter-sum (λ (r : Row). r.1 * worth r) (λ (r : Row). has_member r.0 n) rows
@@ -139,8 +144,8 @@ pub chosen : {T : Type 0} (P : ℕ → T → Type 0) (xs : List ℕ) (none : T) 
 chosen P xs none some n here = by (has_member xs n) refl here
   where
     by : (b : Bool) (is : has_member xs n ≡ b) → b ≡ true → P n (pick P xs none some n b is)
-    by true is yes = (some n is).1
-    by false is yes = absurd cc
+    by true is so = (some n is).1
+    by false is so = absurd cc
 
 -- worths of three that are equal have equal row sums
 pub one-same : (three other : ℕ → ℕ → ℕ → ℕ) (free : List ℕ) (left i sum : ℕ)

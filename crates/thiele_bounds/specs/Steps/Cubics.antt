@@ -45,7 +45,7 @@ lack sums before worth overlap triple hits =
     - (worth * hits + triple * (hits * ((hits - 1) * (hits - 2))))
 
 -- the highest of the first numbers
-pub highest : (ℕ → ℕ) → ℕ → ℕ
+unfoldable pub highest : (ℕ → ℕ) → ℕ → ℕ
 highest number zero = 0
 highest number (suc n) = max (number n) (highest number n)
 
