@@ -7,7 +7,7 @@
 //! more for each voter. It takes much longer.
 ghost use Rattle.std.specs.Prelude.{◌≡◌, ℕ, ◌+◌, ◌-◌, ◌*◌, ◌^◌, ◌<◌, ◌≤◌, true, List, length, min, slice_index, if◌then◌else◌};
 ghost use Rattle.ballot_base.specs.CandSet.{has_member, without_member};
-ghost use Rattle.ballot_base.specs.Ballots.{hits, voter_count};
+ghost use Rattle.ballot_base.specs.Ballots.{IsElection, hits, voter_count};
 ghost use Rattle.ballot_base.specs.Limits.{most_candidates, worth_limit};
 ghost use Rattle.ballot_base.specs.Lists.{IsIncreasing};
 ghost use Rattle.row_multipliers.specs.Completions.{IsNode};
@@ -74,6 +74,7 @@ impl<A: Allocator + Copy> TripleSearch<'_, A> {
         ensures cubics { AreCubics self.now.given.now.sums self.now.profile.now.rows node.now totals.new.constant
             totals.new.worths totals.new.overlaps }
         ensures small { AreSmall totals.new }
+        ensures valid { IsElection self.now.profile.now }
     {
         for (ballot, voters) in self.profile.ballots() {
             let approved = ballot.common(node.free);

@@ -141,6 +141,7 @@ pub choose : {T : Type 0} (P : ℕ → T → Type 0) (xs : List ℕ) (none : T) 
 choose P xs none some n = pick P xs none some n (has_member xs n) refl
 
 pub chosen : {T : Type 0} (P : ℕ → T → Type 0) (xs : List ℕ) (none : T) (some : (n : ℕ) → has_member xs n ≡ true → (t : T) × P n t) (n : ℕ) → has_member xs n ≡ true → P n (choose P xs none some n)
+unfolding pick choose
 chosen P xs none some n here = by (has_member xs n) refl here
   where
     by : (b : Bool) (is : has_member xs n ≡ b) → b ≡ true → P n (pick P xs none some n b is)

@@ -1,5 +1,5 @@
 -- What the totals of triples say of a set.
-use Rattle.std.proofs.Common.{◌≡◌, ℕ, ◌+◌, ◌-◌, ◌*◌, ◌≤◌, ◌∙◌, true, List, ap, arith, max, min, sum_by, get_or}
+use Rattle.std.proofs.Common.{◌≡◌, ℕ, ◌+◌, ◌-◌, ◌*◌, ◌/◌, ◌≤◌, ◌∙◌, true, List, ap, arith, max, min, sum_by, get_or}
 use Rattle.std.specs.Prelude.{slice_index}
 use Rattle.std.specs.List.{AllByRecursion}
 use Rattle.std.proofs.Math.Nat.{mul-le-mul_left}
@@ -50,7 +50,7 @@ module _ (weights sums : List ℕ) (scale unit m : ℕ) (rows : List Row) (node 
   Fits i t = get_or bounds i 0 ≡ sum_of_one (sum_of_two three node.free node.left (λ n. t.third)) node.free node.left (λ n. t.second) i
 
   some : (i : ℕ) → has_member node.free i ≡ true → (t : Thresholds) × Fits i t
-  some i here = let is = bounds_are i here in (record { third = is.0; second = is.1.0; }, is.1.1)
+  some i here = let is = bounds_are i here in (record { third = is.0; second = is.1; }, is.2)
 
   thresholds : ℕ → Thresholds
   thresholds = choose Fits node.free (record { third = λ n. 0; second = 0; }) some
@@ -89,6 +89,7 @@ module _ (weights sums : List ℕ) (scale unit m : ℕ) (rows : List Row) (node 
 
     -- who joins has what is due
     pub threes-pay : due ≤ sum_by (λ n. get_or bounds n 0) more
+    unfolding thresholds
     threes-pay =
         let factor : ℕ = 3 * (node.left - 1) * (node.left - 2) in
         let law = threes-bound (slice_index totals.worths) (overlap_at totals.overlaps) third_of m node.left raise (λ i. (thresholds i).third) (λ i. (thresholds i).second) node.free more (omega (arith, raised.several))

@@ -17,7 +17,7 @@ loop-j-init c =
     let are = c.without-others.ensures in
     rw all record {
       rises = c.members-j-items.ensures.valid;
-      among = λ x is. sym (ap (λ xs. has_member xs x) (sym are)) ∙ is;
+      among = λ x is. ap (λ xs. has_member xs x) (sym are) ∙ is;
       made = λ x in_ out. absurd (let e : true ≡ false = sym in_ ∙ ap (λ xs. has_member xs x) (sym are) ∙ out in cc);
       small = λ x. omega (arith, c.none-sums.ensures x);
     }

@@ -180,3 +180,6 @@ returns-clause-small g c =
       overlaps_small = λ a b low. omega (arith, inv.small_overlaps a b low, fits, c.args.self.now.fits);
       overlaps_self = inv.self_overlaps;
     }
+
+pub returns-clause-valid : goal.returns-clause-valid
+returns-clause-valid g c = c.ballots-ballot-items.ensures.valid

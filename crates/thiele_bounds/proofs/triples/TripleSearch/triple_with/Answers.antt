@@ -17,8 +17,7 @@ returns-clause-value g c =
     let before : c.len-before.result ≡ hits ballot node.set = c.len-before.ensures.count ∙ ap length c.common.ensures ∙ length-common ballot node.set in
     let approved : c.len-approved.result ≡ hits ballot node.free = c.len-approved.ensures.count ∙ ap length c.common-2.ensures ∙ length-common ballot node.free in
     let touch : c.touch_at.result ≡ touch_of node.left (length node.free) (hits ballot node.free) = c.touch_at.ensures.value ∙ ap (touch_of node.left (length node.free)) approved in
-    let has : has_member ballot c.args.i ≡ true = sym c.has.ensures ∙ c.if-not-has.ensures in
     c.triple_of.ensures.value
     ∙ ap (λ n. triple_at sums n c.touch_at.result) before
     ∙ ap (triple_at sums (hits ballot node.set)) touch
-    ∙ ap (λ b. cond b (triple_at sums (hits ballot node.set) (touch_of node.left (length node.free) (hits ballot node.free))) 0) (sym has)
+    ∙ ap (λ b. cond b (triple_at sums (hits ballot node.set) (touch_of node.left (length node.free) (hits ballot node.free))) 0) c.if-not-has.ensures
