@@ -152,11 +152,10 @@ chosen P xs none some n here = by (has_member xs n) refl here
 pub one-same : (three other : ℕ → ℕ → ℕ → ℕ) (free : List ℕ) (left i sum : ℕ)
     → ((j l : ℕ) → has_member (without_member free i) j ≡ true → has_member (without_member (without_member free i) j) l ≡ true → three i j l ≡ other i j l)
     → IsSumOfOne three free left i sum → IsSumOfOne other free left i sum
-one-same three other free left i sum same (third, second, is) =
-    (
-      third,
-      second,
-      is
+one-same three other free left i sum same (third, second, is) = (
+  third,
+  second,
+  is
       ∙ threshold-same (sum_of_two three free left (λ n. third) i) (sum_of_two other free left (λ n. third) i) (without_member free i) (left - 1) second
       (λ j here. threshold-same (three i j) (other i j) (without_member (without_member free i) j) (left - 2) (third j) (λ l there. same j l here there)),
-    )
+)

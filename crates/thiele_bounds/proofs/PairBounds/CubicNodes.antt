@@ -50,10 +50,10 @@ module _ (weights sums : List ℕ) (scale unit m : ℕ) (rows : List Row) (node 
   Fits i t = get_or bounds i 0 ≡ sum_of_one (sum_of_two three node.free node.left (λ n. t.third)) node.free node.left (λ n. t.second) i
 
   some : (i : ℕ) → has_member node.free i ≡ true → (t : Thresholds) × Fits i t
-  some i here = let is = bounds_are i here in (record { third = is.0; second = is.1; }, is.2)
+  some i here = let is = bounds_are i here in (record { third = is.0; second = is.1 }, is.2)
 
   thresholds : ℕ → Thresholds
-  thresholds = choose Fits node.free (record { third = λ n. 0; second = 0; }) some
+  thresholds = choose Fits node.free (record { third = λ n. 0; second = 0 }) some
 
   module _ (committee : List ℕ) (whole : IsCompletion m node.set node.free node.left committee) (reaches : least ≤ thiele_value weights rows committee) where
     abbrev more : List ℕ
@@ -98,7 +98,7 @@ module _ (weights sums : List ℕ) (scale unit m : ℕ) (rows : List Row) (node 
         let same : sum_by (λ n. get_or bounds n 0) more
         ≡ sum_by (sum_of_one (sum_of_two three node.free node.left (λ i. (thresholds i).third)) node.free node.left (λ i. (thresholds i).second)) more =
         sum-equal (λ n. get_or bounds n 0) (sum_of_one (sum_of_two three node.free node.left (λ i. (thresholds i).third)) node.free node.left (λ i. (thresholds i).second)) more
-        (λ n here. chosen Fits node.free (record { third = λ n. 0; second = 0; }) some n (free-is n here)) in
+        (λ n here. chosen Fits node.free (record { third = λ n. 0; second = 0 }) some n (free-is n here)) in
         let product : factor * (needed + sum_of_pairs (overlap_at totals.overlaps) more) ≤ factor * (totals.constant + (sum_by (slice_index totals.worths) more + sum_of_triples third_of more)) =
         mul-le-mul_left factor reach-low in
         let spread : (a b c : ℕ) → a * (b + c) ≡ a * b + a * c = λ a b c. omega arith in

@@ -63,13 +63,12 @@ returns-clause-sum c =
     let sum = c.bound_of.ensures.sum in
     let some : (x : ℕ) → has_member others x ≡ true → (third : ℕ) × (get_or sums x 0 ≡ sum_of_two (plane_three self) self.node.now.free self.node.now.left (λ i j. third) self.i x) =
     λ x here. c.loop-j.invariant.made x here (ap (λ xs. has_member xs x) c.in-None.ensures.steps.0) in
-    let third : ℕ → ℕ = choose (λ x t. get_or sums x 0 ≡ sum_of_two (plane_three self) self.node.now.free self.node.now.left (λ i j. t) self.i x) others 0 some in
-    (
+    let third : ℕ → ℕ = choose (λ x t. get_or sums x 0 ≡ sum_of_two (plane_three self) self.node.now.free self.node.now.left (λ i j. t) self.i x) others 0 some in (
       third,
       sum.0,
       sum.1 ∙ ap (λ xs. threshold_sum (slice_index sums) xs (self.node.now.left - 1) sum.0) c.without-others.ensures
-      ∙ threshold-same (slice_index sums) (sum_of_two (plane_three self) self.node.now.free self.node.now.left (λ n. third) self.i) others (self.node.now.left - 1) sum.0
-      (λ x here. chosen (λ y t. get_or sums y 0 ≡ sum_of_two (plane_three self) self.node.now.free self.node.now.left (λ i j. t) self.i y) others 0 some x here),
+          ∙ threshold-same (slice_index sums) (sum_of_two (plane_three self) self.node.now.free self.node.now.left (λ n. third) self.i) others (self.node.now.left - 1) sum.0
+          (λ x here. chosen (λ y t. get_or sums y 0 ≡ sum_of_two (plane_three self) self.node.now.free self.node.now.left (λ i j. t) self.i y) others 0 some x here),
     )
 
 pub returns-clause-small : goal.returns-clause-small

@@ -24,11 +24,10 @@ returns-clause-sum c =
     let self = c.args.self.now in
     let sum = c.bound_of.ensures.sum in
     let others = without_member (without_member self.node.now.free self.i) c.args.j in
-    let are = c.without-others.ensures ∙ ap (λ x. without_member x c.args.j) c.without.ensures in
-    (
+    let are = c.without-others.ensures ∙ ap (λ x. without_member x c.args.j) c.without.ensures in (
       sum.0,
       sum.1 ∙ ap (λ xs. threshold_sum (slice_index c.worths_with.result) xs (self.node.now.left - 2) sum.0) are
-      ∙ threshold-same (slice_index c.worths_with.result) (plane_three self self.i c.args.j) others (self.node.now.left - 2) sum.0 (λ n here. c.worths_with.ensures.made n here),
+          ∙ threshold-same (slice_index c.worths_with.result) (plane_three self self.i c.args.j) others (self.node.now.left - 2) sum.0 (λ n here. c.worths_with.ensures.made n here),
     )
 
 pub returns-clause-small : goal.returns-clause-small
