@@ -1,7 +1,7 @@
 -- The cubics of rows, and what they add up to.
-use Rattle.std.proofs.Common.{◌≡◌, ℕ, zero, suc, ◌+◌, ◌-◌, ◌*◌, ◌/◌, ◌^◌, ◌<◌, ◌≤◌, ◌∙◌, Bool, true, false, cond, List, [], ◌∷◌, Some, refl, sym, ap, subst, arith, inl, inr, filter, length, max, min, sum, sum_by, take, get_or, slice_get}
+use Rattle.std.proofs.Common.{◌≡◌, ℕ, zero, suc, ◌+◌, ◌-◌, ◌*◌, ◌<◌, ◌≤◌, ◌∙◌, Bool, true, false, cond, List, [], ◌∷◌, Some, refl, ap, arith, inl, inr, filter, length, max, min, sum, sum_by, take, get_or, slice_get}
 use Rattle.std.specs.List.{AllByRecursion}
-use Rattle.std.proofs.Math.Nat.{mul-le-mul, mul-le-mul_left}
+use Rattle.std.proofs.Math.Nat.{mul-le-mul_left}
 use Rattle.std.proofs.lemmas.Bool.{cases_lt}
 use Rattle.std.proofs.lemmas.List.Sums.{sum_by-cons, sum_by_more}
 use Rattle.std.proofs.lemmas.Option.{get_or_from_slice_get, slice_get_within}
@@ -12,7 +12,7 @@ use Rattle.ballot_base.specs.Lists.{IsIncreasing}
 use Rattle.tie_walk.specs.Sequences.{supporters}
 use Rattle.row_multipliers.specs.Completions.{IsNode}
 use Rattle.thiele_bounds.specs.Pairs.{all_overlap, all_worth}
-use Rattle.thiele_bounds.specs.Triples.{IsCubicMajorant, all_triples, sum_of_one, sum_of_two, threshold_sum}
+use Rattle.thiele_bounds.specs.Triples.{IsCubicMajorant, all_triples, sum_of_two, threshold_sum}
 use Rattle.thiele_bounds.specs.Steps.Cubics.{bend_at, fall_at, highest, increment_at, lack, row_constant, row_overlap, row_triple, row_worth}
 use Rattle.thiele_bounds.specs.Steps.Paired.{AreSmallSums, AreSums, most_sum}
 use Rattle.thiele_bounds.specs.Steps.Threes.{IsSumOfOne}

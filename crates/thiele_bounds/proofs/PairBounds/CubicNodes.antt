@@ -1,5 +1,5 @@
 -- What the totals of triples say of a set.
-use Rattle.std.proofs.Common.{◌≡◌, ℕ, ◌+◌, ◌-◌, ◌*◌, ◌/◌, ◌≤◌, ◌∙◌, true, List, ap, arith, max, min, sum_by, get_or}
+use Rattle.std.proofs.Common.{◌≡◌, ℕ, ◌+◌, ◌-◌, ◌*◌, ◌/◌, ◌≤◌, true, List, ap, arith, max, min, sum_by, get_or}
 use Rattle.std.specs.Prelude.{slice_index}
 use Rattle.std.specs.List.{AllByRecursion}
 use Rattle.std.proofs.Math.Nat.{mul-le-mul_left}
@@ -11,7 +11,7 @@ use Rattle.tie_walk.specs.Values.{thiele_value}
 use Rattle.row_multipliers.specs.Completions.{IsNode, IsCompletion}
 use Rattle.row_multipliers.specs.declared.node.Node.{Node}
 use Rattle.thiele_bounds.specs.Pairs.{all_constants, all_overlap, all_worth}
-use Rattle.thiele_bounds.specs.Triples.{all_triples, sum_of_one, sum_of_pairs, sum_of_triples, sum_of_two, worth_of_three}
+use Rattle.thiele_bounds.specs.Triples.{all_triples, sum_of_one, sum_of_pairs, sum_of_triples, sum_of_two}
 use Rattle.thiele_bounds.specs.Steps.Cubics.{row_constant, row_overlap, row_triple, row_worth}
 use Rattle.thiele_bounds.specs.Steps.Paired.{AreSums, overlap_at, pair_place}
 use Rattle.thiele_bounds.specs.Steps.Threes.{AreCubics, AreRaised, IsSumOfOne, three_at}

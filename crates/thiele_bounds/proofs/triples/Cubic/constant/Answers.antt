@@ -1,4 +1,4 @@
-use Rattle.std.proofs.Common.{◌≡◌, ℕ, ◌+◌, ◌-◌, ◌*◌, ◌^◌, ◌≤◌, ◌∙◌, refl, sym, ap, arith, get_or}
+use Rattle.std.proofs.Common.{◌≡◌, ℕ, ◌+◌, ◌-◌, ◌*◌, ◌^◌, ◌≤◌, refl, ap, arith, get_or}
 use Rattle.std.proofs.Math.Nat.{mul-le-mul}
 use Rattle.thiele_bounds.specs.Steps.Cubics.{highest, lack}
 use Rattle.thiele_bounds.specs.Steps.Paired.{most_sum}

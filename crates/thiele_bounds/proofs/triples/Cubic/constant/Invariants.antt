@@ -1,4 +1,4 @@
-use Rattle.std.proofs.Common.{◌≡◌, ◌+◌, ◌*◌, ◌^◌, ◌≤◌}
+use Rattle.std.proofs.Common.{◌≡◌, ◌*◌, ◌^◌, ◌≤◌}
 use Rattle.thiele_bounds.specs.Steps.Cubics.{highest, lack}
 use Rattle.thiele_bounds.specs.Steps.Paired.{most_sum}
 use Rattle.thiele_bounds.proofs.triples.Cubic.constant.Given as goal

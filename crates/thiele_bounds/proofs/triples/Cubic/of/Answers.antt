@@ -1,4 +1,4 @@
-use Rattle.std.proofs.Common.{◌≡◌, ℕ, ◌+◌, ◌*◌, ◌/◌, ◌^◌, ◌≤◌, ap, arith}
+use Rattle.std.proofs.Common.{◌+◌, ◌*◌, ◌/◌, ◌≤◌, arith}
 use Rattle.std.proofs.Math.Nat.{mul-le-mul}
 use Rattle.thiele_bounds.specs.Steps.Paired.{most_sum}
 use Rattle.thiele_bounds.proofs.PairBounds.CubicLemmas.{bend-small, fall-small, increment-small}

@@ -1,4 +1,4 @@
-use Rattle.std.proofs.Common.{◌≡◌, ℕ, ◌-◌, ◌^◌, ◌≤◌, ◌∙◌, subst, ap, arith, get_or}
+use Rattle.std.proofs.Common.{◌-◌, ◌^◌, ◌∙◌, ap, arith}
 use Rattle.std.specs.Prelude.{slice_index}
 use Rattle.ballot_base.specs.CandSet.{without_member}
 use Rattle.ballot_base.specs.Limits.{most_candidates}

@@ -1,5 +1,4 @@
 use Rattle.std.proofs.Common.{rules, ◌≡◌, ℕ, ◌+◌, ◌-◌, ◌*◌, ◌^◌, ◌≤◌, ◌∙◌, true, false, sym, ap, arith, get_or}
-use Rattle.std.specs.Prelude.{slice_index}
 use Rattle.std.proofs.Math.Nat.{mul-le-mul}
 use Rattle.ballot_base.specs.CandSet.{has_member, without_member}
 use Rattle.ballot_base.specs.Limits.{most_candidates}

@@ -1,4 +1,4 @@
-use Rattle.std.proofs.Common.{◌≡◌, ℕ, ◌*◌, ◌^◌, ◌≤◌, length, take, get_or}
+use Rattle.std.proofs.Common.{ℕ, ◌*◌, ◌^◌, ◌≤◌, length, take, get_or}
 use Rattle.ballot_base.specs.Ballots.{voter_count}
 use Rattle.ballot_base.specs.Limits.{most_candidates}
 use Rattle.thiele_bounds.specs.Steps.Paired.{most_sum, overlap_at}

@@ -1,14 +1,13 @@
-use Rattle.std.proofs.Common.{◌≡◌, ℕ, ◌+◌, ◌*◌, ◌^◌, ◌<◌, ◌≤◌, ◌∙◌, Bool, true, false, cond, refl, List, sym, ap, subst, arith, length, take}
+use Rattle.std.proofs.Common.{◌≡◌, ℕ, ◌+◌, ◌*◌, ◌^◌, ◌≤◌, ◌∙◌, Bool, true, false, cond, refl, sym, ap, subst, arith, length, take}
 use Rattle.std.proofs.Math.Nat.{mul-le-mul_left, mul-le-mul_right}
 use Rattle.std.proofs.lemmas.List.{length_push}
 use Rattle.std.proofs.lemmas.List.Sums.{sum_by-take-le}
 use Rattle.ballot_base.specs.CandSet.{common_members, has_member, without_member}
 use Rattle.ballot_base.specs.Limits.{most_candidates}
-use Rattle.ballot_base.specs.Ballots.{Row, hits, voter_count}
+use Rattle.ballot_base.specs.Ballots.{Row, voter_count}
 use Rattle.ballot_base.proofs.Turns.{row_of_turn, all_passed}
 use Rattle.row_multipliers.proofs.CompletionLemmas.{member-high, without-is}
-use Rattle.thiele_bounds.specs.Triples.{all_triples}
-use Rattle.thiele_bounds.specs.Steps.Cubics.{row_triple, touch_of, triple_at}
+use Rattle.thiele_bounds.specs.Steps.Cubics.{row_triple}
 use Rattle.thiele_bounds.specs.Steps.Paired.{most_sum, overlap_at}
 use Rattle.thiele_bounds.specs.Steps.Threes.{AreTriples}
 use Rattle.thiele_bounds.proofs.PairBounds.CubicLemmas.{triple-more}

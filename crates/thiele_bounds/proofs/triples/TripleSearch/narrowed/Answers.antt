@@ -4,7 +4,6 @@ use Rattle.tie_walk.specs.Values.{thiele_value}
 use Rattle.tie_walk.proofs.WorthLemmas.{no_total}
 use Rattle.row_multipliers.proofs.CompletionLemmas.{completion-few}
 use Rattle.row_multipliers.proofs.NarrowedLemmas.{narrowed-members}
-use Rattle.ballot_base.specs.Limits.{most_candidates}
 use Rattle.thiele_bounds.specs.Steps.Paired.{overlap_at, pair_place}
 use Rattle.thiele_bounds.specs.Steps.Threes.{AreRaised}
 use Rattle.thiele_bounds.proofs.PairBounds.CubicNodes.{threes-pay}

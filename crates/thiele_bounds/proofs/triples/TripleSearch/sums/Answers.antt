@@ -1,6 +1,6 @@
-use Rattle.std.proofs.Common.{◌≡◌, ℕ, ◌+◌, ◌-◌, ◌*◌, ◌≤◌, ◌∙◌, true, false, sym, ap, arith, get_or, length}
+use Rattle.std.proofs.Common.{◌≡◌, ℕ, ◌+◌, ◌-◌, ◌*◌, ◌∙◌, true, false, sym, ap}
 use Rattle.std.specs.Prelude.{slice_index}
-use Rattle.ballot_base.specs.CandSet.{has_member, without_member}
+use Rattle.ballot_base.specs.CandSet.{without_member}
 use Rattle.ballot_base.specs.Limits.{most_candidates}
 use Rattle.tie_walk.proofs.WorthLemmas.{no_total}
 use Rattle.thiele_bounds.specs.Triples.{all_triples}
@@ -8,7 +8,7 @@ use Rattle.thiele_bounds.specs.Steps.Cubics.{row_triple}
 use Rattle.thiele_bounds.specs.Steps.Paired.{overlap_at, pair_place}
 use Rattle.thiele_bounds.specs.Steps.Threes.{IsSumOfOne, three_at}
 use Rattle.row_multipliers.proofs.CompletionLemmas.{without-is}
-use Rattle.row_multipliers.proofs.MemberLemmas.{first-in, first-low, later-in}
+use Rattle.row_multipliers.proofs.MemberLemmas.{later-in}
 use Rattle.row_multipliers.proofs.SearchLemmas.{rest-increasing}
 use Rattle.thiele_bounds.proofs.PairBounds.CubicLemmas.{one-same}
 use Rattle.thiele_bounds.proofs.PairBounds.OverlapLemmas.{one-made}

@@ -1,6 +1,5 @@
-use Rattle.std.proofs.Common.{◌≡◌, ℕ, ◌∙◌, true, false, sym, ap, cond, length}
+use Rattle.std.proofs.Common.{◌≡◌, ◌∙◌, ap, cond, length}
 use Rattle.ballot_base.specs.Ballots.{hits}
-use Rattle.ballot_base.specs.CandSet.{has_member}
 use Rattle.tie_walk.proofs.RowSums.{length-common}
 use Rattle.thiele_bounds.specs.Steps.Cubics.{touch_of, triple_at}
 use Rattle.thiele_bounds.proofs.PairBounds.MajorantLemmas.{small-sums}
