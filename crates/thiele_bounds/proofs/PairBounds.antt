@@ -1,4 +1,6 @@
 -- Bounds by pairs of members.
+pub mod CubicLemmas
+pub mod CubicNodes
 pub mod MajorantLemmas
 pub mod OverlapLemmas
 pub mod PairLemmas

@@ -21,20 +21,20 @@ use row_multipliers::Node;
 use std::alloc::Allocator;
 
 /// The number of places in a table of pairs: 65 * 66 / 2.
-const TABLE_PLACES: usize = 2145;
+pub(crate) const TABLE_PLACES: usize = 2145;
 
 /// A number for each unordered pair of candidates, also of a candidate with itself. The row of a candidate has its
 /// pairs with the candidates up to it, and comes after the rows of all candidates before it.
-type Table = [u64; TABLE_PLACES];
+pub(crate) type Table = [u64; TABLE_PLACES];
 
 /// The majorants of all voters, added up.
 #[derive(Drop)]
-struct Totals {
-    constant: u128,
+pub(crate) struct Totals {
+    pub(crate) constant: u128,
     // For each free candidate, the worths of all voters who approve it.
-    worths: Worths,
+    pub(crate) worths: Worths,
     // For each pair of free candidates, the overlaps of all voters who approve both.
-    overlaps: Table,
+    pub(crate) overlaps: Table,
 }
 
 /// What a search looks for by pairs: the ballots, what hits give, and the value that a committee has to reach.
@@ -103,7 +103,7 @@ impl<A: Allocator + Copy> PairSearch<'_, A> {
 
 impl Totals {
     /// Adds the majorant of a ballot that approves these free candidates, once for each of its voters.
-    fn add(&mut self, majorant: Majorant, approved: CandSet, voters: u64)
+    pub(crate) fn add(&mut self, majorant: Majorant, approved: CandSet, voters: u64)
         requires voters { voters ≤ most_voters }
         requires majorant { IsSmallMajorant most_given majorant }
         requires overlap { voters * majorant.overlap ≤ most_overlap }
@@ -125,7 +125,7 @@ impl Totals {
     }
 
     /// The highest overlap of two candidates. It is that of some candidate with itself.
-    fn greatest_overlap(&self) -> u64
+    pub(crate) fn greatest_overlap(&self) -> u64
         requires small { AreSmall self.now }
         ensures most { (i j : ℕ) → i ≤ most_candidates → j ≤ most_candidates
             → overlap_at self.now.overlaps i j ≤ result }
@@ -200,13 +200,13 @@ fn row_start(candidate: u8) -> usize
     candidate * (candidate + 1) / 2
 }
 
-fn place(i: u8, j: u8) -> usize
+pub(crate) fn place(i: u8, j: u8) -> usize
     ensures { result ≡ pair_place i j }
 {
     row_start(i.max(j)) + usize::from(i.min(j))
 }
 
-fn add_pairs(table: &mut Table, members: CandSet, amount: u64)
+pub(crate) fn add_pairs(table: &mut Table, members: CandSet, amount: u64)
     requires fits { (i j : ℕ) → j ≤ most_candidates → overlap_at table.old i j + amount < 2 ^ 64 }
     ensures { (i j : ℕ) → j ≤ most_candidates → overlap_at table.new i j ≡ overlap_at table.old i j
         + (if has_member members i then (if has_member members j then amount else 0) else 0) }

@@ -14,7 +14,7 @@ use Rattle.row_multipliers.proofs.CompletionLemmas.{added-free, added-increasing
 use Rattle.thiele_bounds.proofs.PairBounds.PairLemmas.{rows-bound}
 
 -- a value that is reached in units is reached by the bound
-units-low : (scale unit least needed all overlaps : ℕ) → 1 ≤ unit → ((value : ℕ) → scale * least ≤ unit * value → needed ≤ value) → scale * least + unit * overlaps ≤ unit * all → needed + overlaps ≤ all
+pub units-low : (scale unit least needed all overlaps : ℕ) → 1 ≤ unit → ((value : ℕ) → scale * least ≤ unit * value → needed ≤ value) → scale * least + unit * overlaps ≤ unit * all → needed + overlaps ≤ all
 units-low scale unit least needed all overlaps some units bound = elim (cases_lt all overlaps) [
   | inl high ↦
       let more : unit * (all + 1) ≤ unit * overlaps = mul-le-mul_left unit (omega (arith, high)) in

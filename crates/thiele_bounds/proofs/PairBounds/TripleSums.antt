@@ -5,10 +5,10 @@ use Rattle.std.proofs.lemmas.List.Sums.{sum_by-cons}
 use Rattle.ballot_base.specs.Lists.{IsIncreasing}
 use Rattle.ballot_base.specs.CandSet.{has_member, without_member}
 use Rattle.ballot_base.proofs.Increasing.{has_member_head, same_increasing}
-use Rattle.thiele_bounds.specs.Triples.{sum_of_pairs, sum_of_triples, threshold_sum}
+use Rattle.thiele_bounds.specs.Triples.{sum_of_one, sum_of_pairs, sum_of_triples, sum_of_two, threshold_sum, worth_of_three}
 use Rattle.row_multipliers.proofs.CompletionLemmas.{member-without}
 use Rattle.row_multipliers.proofs.SearchLemmas.{sum-among, sum-threshold}
-use Rattle.thiele_bounds.proofs.PairBounds.PairLemmas.{or-true, sum-apart, sum-less}
+use Rattle.thiele_bounds.proofs.PairBounds.PairLemmas.{or-true, sum-apart, sum-equal, sum-less}
 use Rattle.thiele_bounds.proofs.PairBounds.TripleLemmas.{rest-rises}
 
 ones-length : (xs : List ℕ) → sum_by (λ n. 1) xs ≡ length xs
@@ -230,3 +230,37 @@ module _ (worth : ℕ → ℕ) (overlap : ℕ → ℕ → ℕ) (triple c : ℕ �
         left_ring q p w,
         right_ring q w raise,
       )
+
+-- row sums, one level deeper, bound worths and triples less overlaps
+pub threes-bound : (worth : ℕ → ℕ) (overlap : ℕ → ℕ → ℕ) (triple : ℕ → ℕ → ℕ → ℕ) (m left raise : ℕ) (third : ℕ → ℕ → ℕ) (second : ℕ → ℕ) (free members : List ℕ) → 2 ≤ left → IsIncreasing 1 m free → IsIncreasing 1 m members
+    → length members ≡ left → ((n : ℕ) → has_member members n ≡ true → has_member free n ≡ true) → ((i j : ℕ) → overlap i j ≡ overlap j i)
+    → ((i j l : ℕ) → has_member free i ≡ true → has_member free j ≡ true → has_member free l ≡ true
+    → (left - 1) * (overlap i j + overlap i l + overlap j l) ≤ worth i + worth j + worth l + 3 * (left - 1) * (left - 2) * triple i j l + raise)
+    → 3 * (left - 1) * (left - 2) * (sum_by worth members + sum_of_triples triple members) + left * (left - 1) * (left - 2) * raise
+    ≤ 3 * (left - 1) * (left - 2) * sum_of_pairs overlap members + sum_by (sum_of_one (sum_of_two (worth_of_three worth overlap triple left raise) free left third) free left second) members
+threes-bound worth overlap triple m left raise third second free members two rises up size among symmetric enough =
+    let q : ℕ = left - 2 in
+    let one : left - 1 ≡ q + 1 = omega (arith, two) in
+    let all : left ≡ q + 2 = omega (arith, two) in
+    let three = worth_of_three worth overlap triple left raise in
+    let point : (i j l : ℕ) → has_member members i ≡ true → has_member members j ≡ true → has_member members l ≡ true
+    → three i j l + (q + 1) * (overlap i j + overlap i l + overlap j l) ≡ worth i + worth j + worth l + 3 * (left - 1) * q * triple i j l + raise =
+    λ i j l a b d. omega (arith, enough i j l (among i a) (among j b) (among l d), ap (λ n. n * (overlap i j + overlap i l + overlap j l)) one) in
+    let whole = triples-whole worth overlap triple three m q (3 * (left - 1) * q) raise members up (omega (arith, size, all)) symmetric point in
+    let sums = triples-step three third second m q members free up rises among (omega (arith, size, all)) in
+    let bounds : sum_by (λ i. threshold_sum (λ j. threshold_sum (three i j) (without_member (without_member free i) j) q (third i j)) (without_member free i) (q + 1) (second i)) members
+    ≡ sum_by (sum_of_one (sum_of_two three free left third) free left second) members =
+    sum-equal (λ i. threshold_sum (λ j. threshold_sum (three i j) (without_member (without_member free i) j) q (third i j)) (without_member free i) (q + 1) (second i)) (sum_of_one (sum_of_two three free left third) free left second) members
+    (λ i is. omega (arith, ap (λ n. n * second i) one)) in
+    let split : (k x y : ℕ) → k * (x + y) ≡ k * x + k * y = λ k x y. omega arith in
+    omega (
+      arith,
+      whole,
+      sums,
+      bounds,
+      ap (λ n. 3 * n * q * sum_of_pairs overlap members) one,
+      ap (λ n. 3 * n * q * sum_by worth members) one,
+      ap (λ n. left * n * q * raise) one,
+      ap (λ n. n * (q + 1) * q * raise) all,
+      split (3 * (left - 1) * q) (sum_by worth members) (sum_of_triples triple members),
+    )

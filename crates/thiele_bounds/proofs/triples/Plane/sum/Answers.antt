@@ -1,0 +1,75 @@
+use Rattle.std.proofs.Common.{◌≡◌, ℕ, ◌-◌, ◌^◌, ◌∙◌, true, false, sym, ap, arith, get_or}
+use Rattle.std.specs.Prelude.{slice_index}
+use Rattle.ballot_base.specs.CandSet.{has_member, without_member}
+use Rattle.ballot_base.specs.Limits.{most_candidates}
+use Rattle.thiele_bounds.specs.Triples.{sum_of_two, threshold_sum}
+use Rattle.thiele_bounds.specs.Steps.Threes.{plane_three}
+use Rattle.row_multipliers.proofs.MemberLemmas.{first-in, first-low, later-in}
+use Rattle.row_multipliers.proofs.SearchLemmas.{rest-increasing}
+use Rattle.thiele_bounds.proofs.PairBounds.CubicLemmas.{choose, chosen, threshold-same}
+use Rattle.thiele_bounds.proofs.PairBounds.OverlapLemmas.{one-made, one-most}
+use Rattle.thiele_bounds.proofs.PairBounds.TripleLemmas.{rest-rises}
+use Rattle.thiele_bounds.proofs.triples.Plane.sum.Goals as goal
+
+pub loop-j-init : goal.loop-j-init
+loop-j-init c =
+    let all = c.into_iter-j-iterator.ensures.into_iter_gives ∙ c.members-j-items.ensures.items in
+    let are = c.without-others.ensures in
+    rw all record {
+      rises = c.members-j-items.ensures.valid;
+      among = λ x is. ap (λ xs. has_member xs x) (sym are) ∙ is;
+      made = λ x in_ out. absurd (let e : true ≡ false = sym in_ ∙ ap (λ xs. has_member xs x) (sym are) ∙ out in cc);
+      small = λ x. omega (arith, c.none-sums.ensures x);
+    }
+
+pub sum_of_two-requires-clause-plane : goal.sum_of_two-requires-clause-plane
+sum_of_two-requires-clause-plane c = c.requires
+
+pub sum_of_two-requires-clause-member : goal.sum_of_two-requires-clause-member
+sum_of_two-requires-clause-member c =
+    c.loop-j.invariant.among c.in-Some.j (first-in c.loop-j.j-iterator c.next.new.self c.in-Some.j c.in-Some.ensures.steps c.loop-j.invariant.rises)
+
+pub set-requires-clause-candidate : goal.set-requires-clause-candidate
+set-requires-clause-candidate c = first-low c.loop-j.j-iterator c.next.new.self c.in-Some.j c.in-Some.ensures.steps c.loop-j.invariant.rises
+
+pub set-requires-clause-small : goal.set-requires-clause-small
+set-requires-clause-small c = omega (arith, c.sum_of_two.ensures.small)
+
+pub loop-j-preserved : goal.loop-j-preserved
+loop-j-preserved c =
+    let self = c.args.self.now in
+    let rest = c.loop-j.j-iterator in
+    let first = c.in-Some.j in
+    let inv = c.loop-j.invariant in
+    record {
+      rises = (rest-increasing most_candidates rest c.next.new.self first c.in-Some.ensures.steps inv.rises).1;
+      among = λ x is. inv.among x (later-in rest c.next.new.self first c.in-Some.ensures.steps inv.rises x is);
+      made = one-made rest c.next.new.self first c.in-Some.ensures.steps inv.rises c.loop-j.sums c.set.new.self c.sum_of_two.result c.set.ensures
+          (λ x n. (third : ℕ) × (n ≡ sum_of_two (plane_three self) self.node.now.free self.node.now.left (λ i j. third) self.i x)) (without_member self.node.now.free self.i) c.sum_of_two.ensures.sum inv.made;
+      small = one-most rest c.next.new.self first c.in-Some.ensures.steps inv.rises c.loop-j.sums c.set.new.self c.sum_of_two.result c.set.ensures (2 ^ 100) c.sum_of_two.ensures.small inv.small;
+    }
+
+pub bound_of-requires-clause-candidates : goal.bound_of-requires-clause-candidates
+bound_of-requires-clause-candidates c = rw c.without-others.ensures (rest-rises most_candidates c.args.self.now.i c.args.self.now.node.now.free c.requires.candidates)
+
+pub bound_of-requires-clause-fits : goal.bound_of-requires-clause-fits
+bound_of-requires-clause-fits c n = c.loop-j.invariant.small n
+
+pub returns-clause-sum : goal.returns-clause-sum
+returns-clause-sum c =
+    let self = c.args.self.now in
+    let sums = c.loop-j.sums in
+    let others = without_member self.node.now.free self.i in
+    let sum = c.bound_of.ensures.sum in
+    let some : (x : ℕ) → has_member others x ≡ true → (third : ℕ) × (get_or sums x 0 ≡ sum_of_two (plane_three self) self.node.now.free self.node.now.left (λ i j. third) self.i x) =
+    λ x here. c.loop-j.invariant.made x here (ap (λ xs. has_member xs x) c.in-None.ensures.steps.0) in
+    let third : ℕ → ℕ = choose (λ x t. get_or sums x 0 ≡ sum_of_two (plane_three self) self.node.now.free self.node.now.left (λ i j. t) self.i x) others 0 some in (
+      third,
+      sum.0,
+      sum.1 ∙ ap (λ xs. threshold_sum (slice_index sums) xs (self.node.now.left - 1) sum.0) c.without-others.ensures
+          ∙ threshold-same (slice_index sums) (sum_of_two (plane_three self) self.node.now.free self.node.now.left (λ n. third) self.i) others (self.node.now.left - 1) sum.0
+          (λ x here. chosen (λ y t. get_or sums y 0 ≡ sum_of_two (plane_three self) self.node.now.free self.node.now.left (λ i j. t) self.i y) others 0 some x here),
+    )
+
+pub returns-clause-small : goal.returns-clause-small
+returns-clause-small c = omega (arith, c.bound_of.ensures.small (2 ^ 100) c.loop-j.invariant.small)

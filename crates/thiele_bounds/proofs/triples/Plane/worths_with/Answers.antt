@@ -1,0 +1,147 @@
+use Rattle.std.proofs.Common.{rules, ◌≡◌, ℕ, ◌+◌, ◌-◌, ◌*◌, ◌^◌, ◌≤◌, ◌∙◌, true, false, sym, ap, arith, get_or}
+use Rattle.std.proofs.Math.Nat.{mul-le-mul}
+use Rattle.ballot_base.specs.CandSet.{has_member, without_member}
+use Rattle.ballot_base.specs.Limits.{most_candidates}
+use Rattle.thiele_bounds.specs.Steps.Paired.{overlap_at}
+use Rattle.thiele_bounds.specs.Steps.Threes.{three_at}
+use Rattle.row_multipliers.proofs.CompletionLemmas.{member-high, without-is}
+use Rattle.row_multipliers.proofs.MemberLemmas.{first-low}
+use Rattle.row_multipliers.proofs.SearchLemmas.{rest-increasing}
+use Rattle.thiele_bounds.proofs.PairBounds.OverlapLemmas.{one-made, one-most, pair-within}
+use Rattle.thiele_bounds.proofs.triples.Plane.worths_with.Goals as goal
+use Rattle.thiele_bounds.proofs.triples.Plane.worths_with.Goals.{After-next, After-of-in-loop-l-2}
+
+-- each candidate has a place
+i-low : (c : After-next) → c.args.self.now.i ≤ most_candidates
+i-low c = member-high 1 most_candidates c.args.self.now.node.now.free c.args.self.now.i c.requires.plane.candidates c.requires.plane.member
+
+j-low : (c : After-next) → c.args.j ≤ most_candidates
+j-low c =
+    member-high 1 most_candidates c.args.self.now.node.now.free c.args.j c.requires.plane.candidates
+    (without-is c.args.self.now.node.now.free c.args.self.now.i c.args.j c.requires.member)
+
+pub loop-l-init : goal.loop-l-init
+loop-l-init c =
+    let all = c.into_iter-l-iterator.ensures.into_iter_gives ∙ c.members-l-items.ensures.items in
+    let are = c.without-2.ensures ∙ ap (λ xs. without_member xs c.args.j) c.without.ensures in
+    rw all record {
+      rises = c.members-l-items.ensures.valid;
+      made = λ x in_ out. absurd (let e : true ≡ false = sym in_ ∙ ap (λ xs. has_member xs x) (sym are) ∙ out in cc);
+      small = λ x. omega (arith, c.none-three.ensures x);
+    }
+
+pub bounds-overlaps-place : goal.bounds-overlaps-place
+bounds-overlaps-place c =
+    let at = (goal.at.bounds-overlaps-place c).After-next in
+    omega (arith, c.place.ensures, pair-within c.args.self.now.i c.args.j (i-low at) (j-low at))
+
+pub bounds-overlaps-place-in-loop-l : goal.bounds-overlaps-place-in-loop-l
+bounds-overlaps-place-in-loop-l c =
+    let low = first-low c.loop-l.l-iterator c.next.new.self c.in-Some.l c.in-Some.ensures.steps c.loop-l.invariant.rises in
+    omega (arith, c.place-in-loop-l.ensures, pair-within c.args.self.now.i c.in-Some.l (i-low (goal.at.bounds-overlaps-place-in-loop-l c).After-next) low)
+
+pub bounds-overlaps-place-in-loop-l-2 : goal.bounds-overlaps-place-in-loop-l-2
+bounds-overlaps-place-in-loop-l-2 c =
+    let low = first-low c.loop-l.l-iterator c.next.new.self c.in-Some.l c.in-Some.ensures.steps c.loop-l.invariant.rises in
+    omega (arith, c.place-in-loop-l-2.ensures, pair-within c.args.j c.in-Some.l (j-low (goal.at.bounds-overlaps-place-in-loop-l-2 c).After-next) low)
+
+pub bounds-self-place : goal.bounds-self-place
+bounds-self-place c =
+    let low = first-low c.loop-l.l-iterator c.next.new.self c.in-Some.l c.in-Some.ensures.steps c.loop-l.invariant.rises in
+    omega (arith, c.place-in-loop-l-3.ensures, pair-within c.args.j c.in-Some.l (j-low (goal.at.bounds-self-place c).After-next) low)
+
+pub of-requires : goal.of-requires
+of-requires c = i-low (goal.at.of-requires c).After-next
+
+pub of-requires-in-loop-l : goal.of-requires-in-loop-l
+of-requires-in-loop-l c = j-low (goal.at.of-requires-in-loop-l c).After-next
+
+pub of-requires-in-loop-l-2 : goal.of-requires-in-loop-l-2
+of-requires-in-loop-l-2 c = first-low c.loop-l.l-iterator c.next.new.self c.in-Some.l c.in-Some.ensures.steps c.loop-l.invariant.rises
+
+-- what is read of the totals
+abbrev overlaps-of : After-of-in-loop-l-2 → ℕ
+overlaps-of c = overlap_at c.args.self.now.totals.now.overlaps c.args.self.now.i c.args.j + overlap_at c.args.self.now.totals.now.overlaps c.args.self.now.i c.in-Some.l + overlap_at c.args.self.now.totals.now.overlaps c.args.j c.in-Some.l
+
+overlaps-read : (c : After-of-in-loop-l-2)
+    → c.from-others.result * (c.from-in-loop-l.result + c.from-in-loop-l-2.result + c.from-in-loop-l-3.result) ≡ (c.args.self.now.node.now.left - 1) * overlaps-of c
+overlaps-read c =
+    let table = c.args.self.now.totals.now.overlaps in
+    let one : c.from-in-loop-l.result ≡ overlap_at table c.args.self.now.i c.args.j = c.from-in-loop-l.ensures ∙ ap (λ n. get_or table n 0) c.place.ensures in
+    let two : c.from-in-loop-l-2.result ≡ overlap_at table c.args.self.now.i c.in-Some.l = c.from-in-loop-l-2.ensures ∙ ap (λ n. get_or table n 0) c.place-in-loop-l.ensures in
+    let third : c.from-in-loop-l-3.result ≡ overlap_at table c.args.j c.in-Some.l = c.from-in-loop-l-3.ensures ∙ ap (λ n. get_or table n 0) c.place-in-loop-l-2.ensures in
+    let all : c.from-in-loop-l.result + c.from-in-loop-l-2.result + c.from-in-loop-l-3.result ≡ overlaps-of c = omega (arith, one, two, third) in
+    ap (λ n. n * (c.from-in-loop-l.result + c.from-in-loop-l-2.result + c.from-in-loop-l-3.result)) c.from-others.ensures ∙ ap (λ n. (c.args.self.now.node.now.left - 1) * n) all
+
+triple-read : (c : After-of-in-loop-l-2)
+    → 3 * c.from-others.result * c.from.result * c.from-triple.result ≡ 3 * (c.args.self.now.node.now.left - 1) * (c.args.self.now.node.now.left - 2) * overlap_at c.args.self.now.triples.now c.args.j c.in-Some.l
+triple-read c =
+    let value : c.from-triple.result ≡ overlap_at c.args.self.now.triples.now c.args.j c.in-Some.l = c.from-triple.ensures ∙ ap (λ n. get_or c.args.self.now.triples.now n 0) c.place-in-loop-l-3.ensures in
+    ap (λ n. 3 * n * c.from.result * c.from-triple.result) c.from-others.ensures
+    ∙ ap (λ n. 3 * (c.args.self.now.node.now.left - 1) * n * c.from-triple.result) c.from.ensures
+    ∙ ap (λ n. 3 * (c.args.self.now.node.now.left - 1) * (c.args.self.now.node.now.left - 2) * n) value
+
+l-low : (c : After-of-in-loop-l-2) → c.in-Some.l ≤ most_candidates
+l-low c = first-low c.loop-l.l-iterator c.next.new.self c.in-Some.l c.in-Some.ensures.steps c.loop-l.invariant.rises
+
+-- the worth before the overlaps are taken off is not too large
+worth-small : (c : After-of-in-loop-l-2)
+    → c.of.result + c.of-in-loop-l.result + c.of-in-loop-l-2.result + 3 * c.from-others.result * c.from.result * c.from-triple.result + c.args.self.now.raise ≤ 2 ^ 84
+worth-small c =
+    let small = c.requires.plane.raised.small in
+    let few = c.requires.plane.raised.few in
+    let others : 3 * c.from-others.result ≤ 768 = omega (arith, c.from-others.ensures, few) in
+    let factor : 3 * c.from-others.result * c.from.result ≤ 768 * 256 = mul-le-mul others (let less : c.from.result ≤ 256 = omega (arith, c.from.ensures, few) in less) in
+    let triple : c.from-triple.result ≤ 2 ^ 64 = triple-fits c in
+    let triples : 3 * c.from-others.result * c.from.result * c.from-triple.result ≤ 768 * 256 * 2 ^ 64 = mul-le-mul factor triple in
+    omega (
+      arith,
+      c.of.ensures.value,
+      small.worths_small c.args.self.now.i,
+      c.of-in-loop-l.ensures.value,
+      small.worths_small c.args.j,
+      c.of-in-loop-l-2.ensures.value,
+      small.worths_small c.in-Some.l,
+      triples,
+      c.requires.plane.raised.raise_small,
+    )
+  where
+    triple-fits : (c : After-of-in-loop-l-2) → c.from-triple.result ≤ 2 ^ 64
+    triple-fits c = search rules
+
+pub overflow_sub-worth : goal.overflow_sub-worth
+overflow_sub-worth c =
+    let at = (goal.at.overflow_sub-worth c).After-of-in-loop-l-2 in
+    let low = (goal.at.overflow_sub-worth c).After-next in
+    omega (arith, overlaps-read at, c.requires.plane.raised.enough c.args.self.now.i c.args.j c.in-Some.l (i-low low) (j-low low) (l-low at))
+
+pub set-requires-clause-candidate : goal.set-requires-clause-candidate
+set-requires-clause-candidate c = first-low c.loop-l.l-iterator c.next.new.self c.in-Some.l c.in-Some.ensures.steps c.loop-l.invariant.rises
+
+pub set-requires-clause-small : goal.set-requires-clause-small
+set-requires-clause-small c = omega (arith, worth-small (goal.at.set-requires-clause-small c).After-of-in-loop-l-2)
+
+pub loop-l-preserved : goal.loop-l-preserved
+loop-l-preserved c =
+    let at = (goal.at.loop-l-preserved c).After-of-in-loop-l-2 in
+    let self = c.args.self.now in
+    let rest = c.loop-l.l-iterator in
+    let first = c.in-Some.l in
+    let inv = c.loop-l.invariant in
+    let free = without_member (without_member self.node.now.free self.i) c.args.j in
+    let v : ℕ = c.of.result + c.of-in-loop-l.result + c.of-in-loop-l-2.result + 3 * c.from-others.result * c.from.result * c.from-triple.result + self.raise
+    - c.from-others.result * (c.from-in-loop-l.result + c.from-in-loop-l-2.result + c.from-in-loop-l-3.result) in
+    let is : v ≡ three_at self.totals.now (λ n. overlap_at self.triples.now) self.node.now.left self.raise self.i c.args.j first =
+    omega (arith, c.of.ensures.value, c.of-in-loop-l.ensures.value, c.of-in-loop-l-2.ensures.value, triple-read at, overlaps-read at) in
+    record {
+      rises = (rest-increasing most_candidates rest c.next.new.self first c.in-Some.ensures.steps inv.rises).1;
+      made = one-made rest c.next.new.self first c.in-Some.ensures.steps inv.rises c.loop-l.three c.set.new.self v c.set.ensures
+          (λ x n. n ≡ three_at self.totals.now (λ y. overlap_at self.triples.now) self.node.now.left self.raise self.i c.args.j x) free is inv.made;
+      small = one-most rest c.next.new.self first c.in-Some.ensures.steps inv.rises c.loop-l.three c.set.new.self v c.set.ensures (2 ^ 84) (omega (arith, worth-small at)) inv.small;
+    }
+
+pub returns : goal.returns
+returns c = record {
+  made = λ x in_. c.loop-l.invariant.made x in_ (ap (λ xs. has_member xs x) c.in-None.ensures.steps.0);
+  small = c.loop-l.invariant.small;
+}

@@ -1,0 +1,185 @@
+use Rattle.std.proofs.Common.{◌≡◌, ◌+◌, ◌*◌, ◌^◌, ◌≤◌, ◌∙◌, cond, sym, ap, subst, arith, get_or, length, min, take}
+use Rattle.std.proofs.Math.Nat.{mul-le-mul_left, mul-le-mul_right}
+use Rattle.std.proofs.lemmas.List.{length_push}
+use Rattle.std.proofs.lemmas.List.Sums.{sum_by-take-le}
+use Rattle.ballot_base.specs.CandSet.{has_member}
+use Rattle.ballot_base.specs.Ballots.{Row, hits, voter_count}
+use Rattle.ballot_base.proofs.Turns.{row_of_turn, all_passed}
+use Rattle.tie_walk.proofs.RowSums.{length-common}
+use Rattle.thiele_bounds.specs.Steps.Cubics.{highest, lack, overlap_of, row_constant, row_overlap, row_triple, row_worth, touch_of, triple_at, worth_at}
+use Rattle.thiele_bounds.specs.Steps.Paired.{most_sum, overlap_at}
+use Rattle.thiele_bounds.specs.Steps.Threes.{AreCubics}
+use Rattle.row_multipliers.proofs.CompletionLemmas.{member-high}
+use Rattle.row_multipliers.proofs.HitLemmas.{free-common}
+use Rattle.row_multipliers.proofs.SearchLemmas.{part-most}
+use Rattle.thiele_bounds.proofs.PairBounds.CubicLemmas.{overlap-more, row-more, worth-more}
+use Rattle.thiele_bounds.proofs.PairBounds.MajorantLemmas.{small-sums}
+use Rattle.thiele_bounds.proofs.PairBounds.OverlapLemmas.{portion}
+use Rattle.thiele_bounds.proofs.PairBounds.PairTotals.{cells-same, hits-both, portion-most, portion-self, row-up, voters-more, voters-room}
+use Rattle.thiele_bounds.proofs.triples.TripleSearch.add_ballots.Goals as goal
+
+pub loop-ballot-init : goal.loop-ballot-init
+loop-ballot-init g c =
+    let nothing = c.requires.nothing in
+    record {
+      cubics = record {
+        constant_is = omega (arith, nothing.constant_none);
+        worths_are = λ n here. omega (arith, nothing.worths_none n);
+        overlaps_are = λ i j here there. omega (arith, nothing.overlaps_none i j);
+      };
+      small_constant = omega (arith, nothing.constant_none);
+      small_worths = λ n. omega (arith, nothing.worths_none n);
+      self_overlaps = λ i j one other. omega (arith, nothing.overlaps_none i j);
+      small_overlaps = λ i j low. omega (arith, nothing.overlaps_none i j);
+    }
+
+pub of-cubic-requires-clause-small : goal.of-cubic-requires-clause-small
+of-cubic-requires-clause-small g c = small-sums c.args.self.now.given.now
+
+pub constant-requires-clause-small : goal.constant-requires-clause-small
+constant-requires-clause-small g c = small-sums c.args.self.now.given.now
+
+pub constant-requires-clause-fits : goal.constant-requires-clause-fits
+constant-requires-clause-fits g c =
+    let e = c.args.self.now.profile.now in
+    let row : Row = (c.in-Some.ballot, c.in-Some.voters) in
+    let at = row_of_turn e.rows (c.into_iter-ballot-iterator.ensures.into_iter_gives ∙ c.ballots-ballot-items.ensures.rows) c.loop-ballot.yielded c.loop-ballot.yielded_by row c.in-Some.ensures.steps in
+    omega (
+      arith,
+      c.min-most.ensures,
+      c.len-before.ensures.count,
+      ap length c.common.ensures,
+      length-common c.in-Some.ballot c.args.node.now.set,
+      c.len-in-loop-ballot.ensures.count,
+      ap length c.common-approved.ensures,
+      length-common c.in-Some.ballot c.args.node.now.free,
+      hits-both e.m c.in-Some.ballot c.args.node.now.set c.args.node.now.free (row-up e c.ballots-ballot-items.ensures.valid (length c.loop-ballot.yielded) row at) c.ballots-ballot-items.ensures.valid.most c.requires.is_node,
+    )
+
+pub add-requires : goal.add-requires
+add-requires g c =
+    let e = c.args.self.now.profile.now in
+    let given = c.args.self.now.given.now in
+    let all_give = most_sum given.sums in
+    let row : Row = (c.in-Some.ballot, c.in-Some.voters) in
+    let at = row_of_turn e.rows (c.into_iter-ballot-iterator.ensures.into_iter_gives ∙ c.ballots-ballot-items.ensures.rows) c.loop-ballot.yielded c.loop-ballot.yielded_by row c.in-Some.ensures.steps in
+    let i = length c.loop-ballot.yielded in
+    let valid = c.ballots-ballot-items.ensures.valid in
+    let inv = c.loop-ballot.invariant in
+    let few : voter_count (take (i + 1) e.rows) ≤ voter_count e.rows = sum_by-take-le (λ (r : Row). r.1) e.rows (i + 1) in
+    let fits : (voter_count (take i e.rows) + row.1) * all_give ≤ voter_count e.rows * all_give = mul-le-mul_right all_give (omega (arith, few, voters-more e valid i row at)) in
+    let small = c.of-cubic.ensures.small in
+    let top = (small-sums given).all_small in
+    let overlap : row.1 * c.of-cubic.result.overlap ≤ row.1 * all_give = mul-le-mul_left row.1 small.overlap_small in
+    record {
+      voters = omega (arith, voters-room e valid i row at);
+      majorant = record {
+        constant_small = omega (arith, c.constant.ensures.small, top);
+        worth_small = omega (arith, small.worth_small, top);
+        overlap_small = omega (arith, small.overlap_small, top);
+      };
+      overlap = omega (arith, overlap, fits, c.args.self.now.fits);
+      small = record {
+        constant_small = omega (arith, inv.small_constant, fits, c.args.self.now.fits);
+        worths_small = λ n. omega (arith, inv.small_worths n, fits, c.args.self.now.fits);
+        overlaps_small = λ a b low. omega (arith, inv.small_overlaps a b low, fits, c.args.self.now.fits);
+        overlaps_self = inv.self_overlaps;
+      };
+    }
+
+pub loop-ballot-preserved : goal.loop-ballot-preserved
+loop-ballot-preserved g c =
+    let given = c.args.self.now.given.now in
+    let sums = given.sums in
+    let e = c.args.self.now.profile.now in
+    let node = c.args.node.now in
+    let set = node.set in
+    let free = node.free in
+    let row : Row = (c.in-Some.ballot, c.in-Some.voters) in
+    let at = row_of_turn e.rows (c.into_iter-ballot-iterator.ensures.into_iter_gives ∙ c.ballots-ballot-items.ensures.rows) c.loop-ballot.yielded c.loop-ballot.yielded_by row c.in-Some.ensures.steps in
+    let i = length c.loop-ballot.yielded in
+    let next = sym (length_push c.loop-ballot.yielded row) in
+    let inv = c.loop-ballot.invariant in
+    let valid = c.ballots-ballot-items.ensures.valid in
+    let approved = c.common-approved.result in
+    let cubic = c.of-cubic.result in
+    let before : c.len-before.result ≡ hits row.0 set = c.len-before.ensures.count ∙ ap length c.common.ensures ∙ length-common row.0 set in
+    let open_ : c.len.result ≡ hits row.0 free = c.len.ensures.count ∙ ap length c.common-approved.ensures ∙ length-common row.0 free in
+    let many : c.len-in-loop-ballot.result ≡ hits row.0 free = c.len-in-loop-ballot.ensures.count ∙ ap length c.common-approved.ensures ∙ length-common row.0 free in
+    let touch : c.touch_at.result ≡ touch_of node.left (length free) (hits row.0 free) = c.touch_at.ensures.value ∙ ap (touch_of node.left (length free)) open_ in
+    let worth : cubic.worth ≡ row_worth sums set free node.left row =
+    c.of-cubic.ensures.worth ∙ ap (λ n. worth_at sums n c.touch_at.result) before ∙ ap (worth_at sums (hits row.0 set)) touch in
+    let overlap : cubic.overlap ≡ row_overlap sums set free node.left row =
+    c.of-cubic.ensures.overlap ∙ ap (λ n. overlap_of sums n c.touch_at.result) before ∙ ap (overlap_of sums (hits row.0 set)) touch in
+    let triple : cubic.triple ≡ triple_at sums (hits row.0 set) (touch_of node.left (length free) (hits row.0 free)) =
+    c.of-cubic.ensures.triple ∙ ap (λ n. triple_at sums n c.touch_at.result) before ∙ ap (triple_at sums (hits row.0 set)) touch in
+    let most : c.min-most.result ≡ min node.left (hits row.0 free) = c.min-most.ensures ∙ ap (min node.left) many in
+    let constant : c.constant.result ≡ row_constant sums set free node.left row =
+    c.constant.ensures.value
+    ∙ ap (λ n. highest (lack sums n cubic.worth cubic.overlap cubic.triple) (c.min-most.result + 1)) before
+    ∙ ap (λ n. highest (lack sums (hits row.0 set) n cubic.overlap cubic.triple) (c.min-most.result + 1)) worth
+    ∙ ap (λ n. highest (lack sums (hits row.0 set) (row_worth sums set free node.left row) n cubic.triple) (c.min-most.result + 1)) overlap
+    ∙ ap (λ n. highest (lack sums (hits row.0 set) (row_worth sums set free node.left row) (row_overlap sums set free node.left row) n) (c.min-most.result + 1)) triple
+    ∙ ap (λ n. highest (lack sums (hits row.0 set) (row_worth sums set free node.left row) (row_overlap sums set free node.left row) (row_triple sums set free node.left row)) (n + 1)) most in
+    let before_totals = c.loop-ballot.totals in
+    let totals = c.add.new.self in
+    let more : AreCubics sums (take (i + 1) e.rows) node totals.constant totals.worths totals.overlaps = record {
+      constant_is = omega (
+        arith,
+        c.add.ensures.constant,
+        inv.cubics.constant_is,
+        ap (λ n. row.1 * n) constant,
+        row-more e.rows i row at (λ (r : Row). r.1 * row_constant sums set free node.left r),
+      );
+      worths_are = λ n here.
+          c.add.ensures.worths n
+          ∙ ap (λ b. get_or before_totals.worths n 0 + cond b (row.1 * cubic.worth) 0) (ap (λ l. has_member l n) c.common-approved.ensures ∙ free-common row.0 free n here)
+          ∙ ap (λ x. get_or before_totals.worths n 0 + cond (has_member row.0 n) (row.1 * x) 0) worth
+          ∙ ap (λ x. x + cond (has_member row.0 n) (row.1 * row_worth sums set free node.left row) 0) (inv.cubics.worths_are n here)
+          ∙ sym (worth-more e.rows i row at (row_worth sums set free node.left) n);
+      overlaps_are = λ a b here there.
+          c.add.ensures.overlaps a b (omega (arith, member-high 1 e.m free b c.requires.is_node.free_within there, valid.most))
+          ∙ ap (λ x. overlap_at before_totals.overlaps a b + x) (cells-same row.0 free approved a b (row.1 * cubic.overlap) c.common-approved.ensures here there)
+          ∙ ap (λ x. overlap_at before_totals.overlaps a b + portion (has_member row.0 a) (has_member row.0 b) (row.1 * x)) overlap
+          ∙ ap (λ x. x + portion (has_member row.0 a) (has_member row.0 b) (row.1 * row_overlap sums set free node.left row)) (inv.cubics.overlaps_are a b here there)
+          ∙ sym (overlap-more e.rows i row at (row_overlap sums set free node.left) a b);
+    } in
+    let all_give = most_sum sums in
+    let small_constant : row.1 * c.constant.result ≤ row.1 * (all_give * 2 ^ 13) = mul-le-mul_left row.1 c.constant.ensures.small in
+    let small_worth : row.1 * cubic.worth ≤ row.1 * all_give = mul-le-mul_left row.1 c.of-cubic.ensures.small.worth_small in
+    let small_overlap : row.1 * cubic.overlap ≤ row.1 * all_give = mul-le-mul_left row.1 c.of-cubic.ensures.small.overlap_small in
+    let voters = ap (λ n. n * all_give) (voters-more e valid i row at) in
+    record {
+      cubics = subst (λ n. AreCubics sums (take n e.rows) node totals.constant totals.worths totals.overlaps) next more;
+      small_constant = subst (λ n. totals.constant ≤ voter_count (take n e.rows) * (all_give * 2 ^ 13)) next (omega (arith, c.add.ensures.constant, small_constant, voters, inv.small_constant));
+      small_worths = λ n. subst (λ x. get_or totals.worths n 0 ≤ voter_count (take x e.rows) * (all_give * 2 ^ 8)) next
+          (omega (arith, small_worth, voters, inv.small_worths n, c.add.ensures.worths n, part-most (has_member approved n) (row.1 * cubic.worth)));
+      self_overlaps = λ a b one other.
+          omega (arith, inv.self_overlaps a b one other, c.add.ensures.overlaps a b other, c.add.ensures.overlaps a a one, portion-self (has_member approved a) (has_member approved b) (row.1 * cubic.overlap));
+      small_overlaps = λ a b low. subst (λ x. overlap_at totals.overlaps a b ≤ voter_count (take x e.rows) * all_give) next
+          (omega (arith, small_overlap, voters, inv.small_overlaps a b low, c.add.ensures.overlaps a b low, portion-most (has_member approved a) (has_member approved b) (row.1 * cubic.overlap)));
+    }
+
+pub returns-clause-cubics : goal.returns-clause-cubics
+returns-clause-cubics g c =
+    let e = c.args.self.now.profile.now in
+    let totals = c.loop-ballot.totals in
+    let all = all_passed e.rows (c.into_iter-ballot-iterator.ensures.into_iter_gives ∙ c.ballots-ballot-items.ensures.rows) c.loop-ballot.yielded c.loop-ballot.yielded_by c.in-None.ensures.steps.0 in
+    subst (λ rows. AreCubics c.args.self.now.given.now.sums rows c.args.node.now totals.constant totals.worths totals.overlaps) all c.loop-ballot.invariant.cubics
+
+pub returns-clause-small : goal.returns-clause-small
+returns-clause-small g c =
+    let e = c.args.self.now.profile.now in
+    let all_give = most_sum c.args.self.now.given.now.sums in
+    let few = sum_by-take-le (λ (r : Row). r.1) e.rows (length c.loop-ballot.yielded) in
+    let fits : voter_count (take (length c.loop-ballot.yielded) e.rows) * all_give ≤ voter_count e.rows * all_give = mul-le-mul_right all_give few in
+    let inv = c.loop-ballot.invariant in
+    record {
+      constant_small = omega (arith, inv.small_constant, fits, c.args.self.now.fits);
+      worths_small = λ n. omega (arith, inv.small_worths n, fits, c.args.self.now.fits);
+      overlaps_small = λ a b low. omega (arith, inv.small_overlaps a b low, fits, c.args.self.now.fits);
+      overlaps_self = inv.self_overlaps;
+    }
+
+pub returns-clause-valid : goal.returns-clause-valid
+returns-clause-valid g c = c.ballots-ballot-items.ensures.valid

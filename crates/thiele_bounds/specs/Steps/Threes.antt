@@ -1,0 +1,66 @@
+-- What is kept for triples of members, and their row sums.
+use Rattle.std.specs.Prelude.{ℕ, ◌≡◌, ◌+◌, ◌-◌, ◌*◌, ◌^◌, ◌<◌, ◌≤◌, true, List, slice_index}
+use Rattle.ballot_base.specs.Ballots.{Row}
+use Rattle.ballot_base.specs.CandSet.{has_member, without_member}
+use Rattle.ballot_base.specs.Limits.{most_candidates}
+use Rattle.ballot_base.specs.Lists.{IsIncreasing}
+use Rattle.row_multipliers.specs.declared.node.Node.{Node}
+use Rattle.thiele_bounds.specs.Pairs.{all_constants, all_overlap, all_worth}
+use Rattle.thiele_bounds.specs.Triples.{all_triples, sum_of_one, sum_of_two, worth_of_three}
+use Rattle.thiele_bounds.specs.Steps.Cubics.{row_constant, row_overlap, row_triple, row_worth}
+use Rattle.thiele_bounds.specs.Steps.Paired.{overlap_at}
+use Rattle.thiele_bounds.specs.Steps.Totals.{AreSmall}
+use Rattle.thiele_bounds.specs.declared.pairs.Totals.{Totals}
+use Rattle.thiele_bounds.specs.declared.triples.Plane.{Plane}
+
+-- the totals are those of the rows' cubics
+pub record AreCubics (sums : List ℕ) (rows : List Row) (node : Node) (constant : ℕ) (worths table : List ℕ) : Type 0
+  where
+    pub constant_is : constant ≡ all_constants (row_constant sums node.set node.free node.left) rows
+    pub worths_are : (n : ℕ) → has_member node.free n ≡ true
+        → slice_index worths n ≡ all_worth (row_worth sums node.set node.free node.left) rows n
+    pub overlaps_are : (i j : ℕ) → has_member node.free i ≡ true → has_member node.free j ≡ true
+        → overlap_at table i j ≡ all_overlap (row_overlap sums node.set node.free node.left) rows i j
+
+-- the triples of the rows' cubics with the candidate i
+abbrev pub AreTriples : List ℕ → List Row → Node → ℕ → List ℕ → Type 0
+AreTriples sums rows node i table = (j l : ℕ) → has_member (without_member node.free i) j ≡ true
+    → has_member (without_member node.free i) l ≡ true
+    → overlap_at table j l ≡ all_triples (row_triple sums node.set node.free node.left) rows i j l
+
+-- the worth of three, by totals
+abbrev pub three_at : Totals → (ℕ → ℕ → ℕ → ℕ) → ℕ → ℕ → ℕ → ℕ → ℕ → ℕ
+three_at totals triple left raise =
+    worth_of_three (slice_index totals.worths) (overlap_at totals.overlaps) triple left raise
+
+-- a row sum of row sums, by some thresholds
+abbrev pub IsSumOfOne : (ℕ → ℕ → ℕ → ℕ) → List ℕ → ℕ → ℕ → ℕ → Type 0
+IsSumOfOne three free left i sum = (third : ℕ → ℕ) × (second : ℕ)
+    × (sum ≡ sum_of_one (sum_of_two three free left (λ i. third)) free left (λ i. second) i)
+
+-- worths are raised enough, and not too much
+pub record AreRaised (totals : Totals) (left raise : ℕ) : Type 0 where
+  pub several : 3 ≤ left
+  pub few : left < 2 ^ 8
+  pub small : AreSmall totals
+  pub raise_small : raise ≤ 2 ^ 70
+  pub enough : (i j l : ℕ) → i ≤ most_candidates → j ≤ most_candidates → l ≤ most_candidates
+      → (left - 1) * (overlap_at totals.overlaps i j + overlap_at totals.overlaps i l + overlap_at totals.overlaps j l)
+      ≤ raise
+
+-- a free candidate, and worths that are raised
+pub record IsPlane (plane : Plane) : Type 0 where
+  pub raised : AreRaised plane.totals.now plane.node.now.left plane.raise
+  pub candidates : IsIncreasing 1 most_candidates plane.node.now.free
+  pub member : has_member plane.node.now.free plane.i ≡ true
+
+-- the worth of three, in a plane
+abbrev pub plane_three : Plane → ℕ → ℕ → ℕ → ℕ
+plane_three plane =
+    three_at plane.totals.now (λ i. overlap_at plane.triples.now) plane.node.now.left plane.raise
+
+-- the worth of each of the others with the candidate and j, none too large
+pub record AreThree (plane : Plane) (j : ℕ) (worths : List ℕ) : Type 0 where
+  pub made : (l : ℕ) → has_member (without_member (without_member plane.node.now.free plane.i) j) l ≡ true
+      → slice_index worths l ≡ plane_three plane plane.i j l
+  pub small : (l : ℕ) → slice_index worths l ≤ 2 ^ 84

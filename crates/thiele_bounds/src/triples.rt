@@ -1,0 +1,340 @@
+//! A bound that sees which candidates share voters, three at a time.
+//!
+//! Cubic majorants are summed over the ballots. No completion of a set is worth more than what all voters keep, the
+//! worths of the added members and the triples of all three of them, less the overlaps of all pairs of them
+//! (`laws::triples`). Row sums, one level deeper than those of `pairs`, bound this in turn by a sum over the members
+//! (`laws::triple_sums`). With many voters the bound is far lower than that of `pairs`, whose quadratic functions lose
+//! more for each voter. It takes much longer.
+ghost use Rattle.std.specs.Prelude.{◌≡◌, ℕ, ◌+◌, ◌-◌, ◌*◌, ◌^◌, ◌<◌, ◌≤◌, true, List, length, min, slice_index, if◌then◌else◌};
+ghost use Rattle.ballot_base.specs.CandSet.{has_member, without_member};
+ghost use Rattle.ballot_base.specs.Ballots.{IsElection, hits, voter_count};
+ghost use Rattle.ballot_base.specs.Limits.{most_candidates, worth_limit};
+ghost use Rattle.ballot_base.specs.Lists.{IsIncreasing};
+ghost use Rattle.row_multipliers.specs.Completions.{IsNode};
+ghost use Rattle.thiele_bounds.specs.Triples.{all_triples, sum_of_two, threshold_sum};
+ghost use Rattle.thiele_bounds.specs.Steps.Paired.{AreNothing, AreSmallSums, most_sum, overlap_at};
+ghost use Rattle.thiele_bounds.specs.Steps.Cubics.{IsSmallCubic, bend_at, contact, fall_at, highest, increment_at, lack, overlap_of, row_triple, touch_of, triple_at, worth_at};
+ghost use Rattle.thiele_bounds.specs.Steps.Threes.{AreCubics, AreRaised, AreThree, AreTriples, IsPlane, IsSumOfOne, plane_three, three_at};
+ghost use Rattle.thiele_bounds.specs.Steps.Totals.{AreSmall, NarrowsUnder};
+ghost use Rattle.thiele_bounds.specs.Steps.Units.{most_overlap};
+
+use crate::majorant::{HitSums, Majorant};
+use crate::pairs::{TABLE_PLACES, Table, Totals, add_pairs, place};
+use ballot_base::{CandSet, PLACES, Profile, Worths};
+use row_multipliers::Node;
+use std::alloc::Allocator;
+
+/// What a search looks for by triples: the ballots, what hits give, and the value that a committee has to reach.
+#[derive(Drop)]
+pub struct TripleSearch<'a, A: Allocator + Copy> {
+    pub profile: &'a Profile<A>,
+    pub given: &'a HitSums,
+    pub least: u128,
+    ghost size: { profile.now.m ≤ most_candidates },
+    ghost fits: { voter_count profile.now.rows * most_sum given.now.sums ≤ most_overlap },
+}
+
+impl<A: Allocator + Copy> TripleSearch<'_, A> {
+    /// The free candidates of a node that can still join. Returns `None` only if no completion of its set reaches the
+    /// value.
+    pub fn narrowed(&self, node: &Node) -> Option<CandSet>
+        requires is_node { IsNode self.now.profile.now.m node.now.set node.now.free }
+        requires several { 3 ≤ node.now.left }
+        ensures { NarrowsUnder self.now.given.now self.now.profile.now node.now self.now.least result }
+    {
+        if node.free.len() < node.left {
+            return None;
+        }
+        let mut totals = Totals {
+            constant: 0,
+            worths: Worths::none(),
+            overlaps: [0; TABLE_PLACES],
+        };
+        self.add_ballots(&mut totals, node);
+        let others = u128::from(node.left - 1);
+        let factor = 3 * others * u128::from(node.left - 2);
+        let raise = 3 * others * u128::from(totals.greatest_overlap());
+        let due = self
+            .given
+            .units(self.least)
+            .saturating_mul(factor)
+            .saturating_add(u128::from(node.left) * others * u128::from(node.left - 2) * raise);
+        self.sums(node, &totals, raise).members_for(
+            node.free,
+            node.left,
+            due.saturating_sub(factor * totals.constant),
+        )
+    }
+
+    /// Adds up the cubics of all voters, except for their triples.
+    fn add_ballots(&self, totals: &mut Totals, node: &Node)
+        requires is_node { IsNode self.now.profile.now.m node.now.set node.now.free }
+        requires some { 1 ≤ length node.now.free }
+        requires nothing { AreNothing totals.old.constant totals.old.worths totals.old.overlaps }
+        ensures cubics { AreCubics self.now.given.now.sums self.now.profile.now.rows node.now totals.new.constant
+            totals.new.worths totals.new.overlaps }
+        ensures small { AreSmall totals.new }
+        ensures valid { IsElection self.now.profile.now }
+    {
+        for (ballot, voters) in self.profile.ballots() {
+            let approved = ballot.common(node.free);
+            let before = ballot.common(node.set).len();
+            let cubic = Cubic::of(&self.given.sums, before, touch_at(node, approved.len()));
+            let most = node.left.min(approved.len());
+            let majorant = Majorant {
+                constant: cubic.constant(&self.given.sums, before, most),
+                worth: cubic.worth,
+                overlap: cubic.overlap,
+            };
+            totals.add(majorant, approved, voters);
+        }
+    }
+
+    /// For each free candidate, the row sum of the row sums of the pairs with it.
+    fn sums(&self, node: &Node, totals: &Totals, raise: u128) -> Worths
+        requires is_node { IsNode self.now.profile.now.m node.now.set node.now.free }
+        requires raised { AreRaised totals.now node.now.left raise }
+        ensures { (i : ℕ) → has_member node.now.free i ≡ true → IsSumOfOne (three_at totals.now
+            (all_triples (row_triple self.now.given.now.sums node.now.set node.now.free node.now.left)
+            self.now.profile.now.rows) node.now.left raise) node.now.free node.now.left i (slice_index result i) }
+    {
+        let mut sums = Worths::none();
+        for i in node.free.members() {
+            let mut triples = [0; TABLE_PLACES];
+            self.add_triples(&mut triples, node, i);
+            let plane = Plane {
+                node,
+                totals,
+                triples: &triples,
+                raise,
+                i,
+            };
+            sums.set(i, plane.sum());
+        }
+        sums
+    }
+
+    /// Adds up the triples of all voters who approve the candidate `i`, for each pair of the other free candidates.
+    fn add_triples(&self, triples: &mut Table, node: &Node, i: u8)
+        requires is_node { IsNode self.now.profile.now.m node.now.set node.now.free }
+        requires some { 1 ≤ length node.now.free }
+        requires nothing { (j l : ℕ) → overlap_at triples.old j l ≡ 0 }
+        ensures { AreTriples self.now.given.now.sums self.now.profile.now.rows node.now i triples.new }
+    {
+        let others = node.free.without(i);
+        for (ballot, voters) in self.profile.ballots() {
+            let triple = self.triple_with(node, ballot, i);
+            add_some_pairs(triples, ballot.common(others), voters * triple);
+        }
+    }
+
+    /// The triple of the cubic of a ballot, or 0 if the ballot does not approve the candidate `i`.
+    fn triple_with(&self, node: &Node, ballot: CandSet, i: u8) -> u64
+        requires { 1 ≤ length node.now.free }
+        ensures value { result ≡ (if has_member ballot i then triple_at self.now.given.now.sums
+            (hits ballot node.now.set) (touch_of node.now.left (length node.now.free) (hits ballot node.now.free))
+            else 0) }
+        ensures small { result ≤ most_sum self.now.given.now.sums }
+    {
+        if !ballot.has(i) {
+            return 0;
+        }
+        let before = ballot.common(node.set).len();
+        let approved = ballot.common(node.free).len();
+        triple_of(&self.given.sums, before, touch_at(node, approved))
+    }
+}
+
+/// The triples that a candidate `i` belongs to.
+#[derive(Drop)]
+struct Plane<'a> {
+    node: &'a Node,
+    totals: &'a Totals,
+    triples: &'a Table,
+    // Worths of three are raised by this, so that none is below 0.
+    raise: u128,
+    i: u8,
+}
+
+impl Plane<'_> {
+    /// A bound on the sums of two that the candidate and others make.
+    fn sum(&self) -> u128
+        requires { IsPlane self.now }
+        ensures sum { IsSumOfOne (plane_three self.now) self.now.node.now.free self.now.node.now.left self.now.i
+            result }
+        ensures small { result < worth_limit }
+    {
+        let others = self.node.free.without(self.i);
+        let mut sums = Worths::none();
+        for j in others.members() {
+            sums.set(j, self.sum_of_two(j));
+        }
+        bound_of(&sums, others, self.node.left - 1)
+    }
+
+    /// A bound on the worths of three that the candidate, `j` and others make.
+    fn sum_of_two(&self, j: u8) -> u128
+        requires plane { IsPlane self.now }
+        requires member { has_member (without_member self.now.node.now.free self.now.i) j ≡ true }
+        ensures sum { (third : ℕ) × (result ≡ sum_of_two (plane_three self.now) self.now.node.now.free
+            self.now.node.now.left (λ i j. third) self.now.i j) }
+        ensures small { result ≤ 2 ^ 100 }
+    {
+        let others = self.node.free.without(self.i).without(j);
+        bound_of(&self.worths_with(j), others, self.node.left - 2)
+    }
+
+    /// The worth of three with the candidate and `j`, for each of the others.
+    fn worths_with(&self, j: u8) -> Worths
+        requires plane { IsPlane self.now }
+        requires member { has_member (without_member self.now.node.now.free self.now.i) j ≡ true }
+        ensures { AreThree self.now j result }
+    {
+        let others = u128::from(self.node.left - 1);
+        let factor = 3 * others * u128::from(self.node.left - 2);
+        let worths = &self.totals.worths;
+        let overlaps = &self.totals.overlaps;
+        let mut three = Worths::none();
+        for l in self.node.free.without(self.i).without(j).members() {
+            let overlap = u128::from(overlaps[place(self.i, j)])
+                + u128::from(overlaps[place(self.i, l)])
+                + u128::from(overlaps[place(j, l)]);
+            let triple = u128::from(self.triples[place(j, l)]);
+            let worth = worths.of(self.i) + worths.of(j) + worths.of(l);
+            three.set(l, worth + factor * triple + self.raise - others * overlap);
+        }
+        three
+    }
+}
+
+/// A bound on the sum of the worths of `count` of the candidates.
+fn bound_of(worths: &Worths, candidates: CandSet, count: u8) -> u128
+    requires candidates { IsIncreasing 1 most_candidates candidates }
+    requires fits { (n : ℕ) → slice_index worths.now n ≤ 2 ^ 100 }
+    ensures sum { (threshold : ℕ) × (result ≡ threshold_sum (slice_index worths.now) candidates count threshold) }
+    ensures small { (most : ℕ) → ((n : ℕ) → slice_index worths.now n ≤ most) → result ≤ 2 ^ 9 * most }
+{
+    let threshold = worths.nth_greatest(candidates, count);
+    u128::from(count) * threshold + worths.excess(candidates, threshold)
+}
+
+/// Like `add_pairs`, but an amount of 0 takes no time.
+fn add_some_pairs(table: &mut Table, members: CandSet, amount: u64)
+    requires fits { (i j : ℕ) → j ≤ most_candidates → overlap_at table.old i j + amount < 2 ^ 64 }
+    ensures { (i j : ℕ) → j ≤ most_candidates → overlap_at table.new i j ≡ overlap_at table.old i j
+        + (if has_member members i then (if has_member members j then amount else 0) else 0) }
+{
+    if amount > 0 {
+        add_pairs(table, members, amount);
+    }
+}
+
+/// What a voter gives for h further hits is bounded by a constant and `worth * h - overlap * h * (h - 1)
+/// + triple * h * (h - 1) * (h - 2)`.
+#[derive(Clone, Copy)]
+struct Cubic {
+    worth: u64,
+    overlap: u64,
+    triple: u64,
+}
+
+impl Cubic {
+    /// The cubic that is exact at `touch` further hits after the first `before`, and at one, two and three more.
+    fn of(sums: &[u64; PLACES], before: u8, touch: u8) -> Cubic
+        requires small { AreSmallSums sums.now }
+        requires touch { touch ≤ 61 }
+        ensures worth { result.worth ≡ worth_at sums.now before touch }
+        ensures overlap { result.overlap ≡ overlap_of sums.now before touch }
+        ensures triple { result.triple ≡ triple_at sums.now before touch }
+        ensures small { IsSmallCubic (most_sum sums.now) result.worth result.overlap result.triple }
+    {
+        let most = sums[PLACES - 1];
+        let at = contact_at(before, touch);
+        let (fall, bend) = (fall_of(sums, at), bend_of(sums, at));
+        let touch = u64::from(touch);
+        let worth = increment_of(sums, at) + touch * fall + touch * (touch + 1) / 2 * bend;
+        let overlap = (fall + touch * bend) / 2;
+        Cubic {
+            worth: worth.min(most),
+            overlap: overlap.min(most),
+            triple: bend / 6,
+        }
+    }
+
+    /// The lowest constant with which the cubic is a majorant for up to `most` hits after the first `before`.
+    fn constant(&self, sums: &[u64; PLACES], before: u8, most: u8) -> u64
+        requires small { AreSmallSums sums.now }
+        requires fits { before + most ≤ most_candidates }
+        requires cubic { IsSmallCubic (most_sum sums.now) self.now.worth self.now.overlap self.now.triple }
+        ensures value { result ≡ highest (lack sums.now before self.now.worth self.now.overlap self.now.triple)
+            (most + 1) }
+        ensures small { result ≤ most_sum sums.now * 2 ^ 13 }
+    {
+        let first = usize::from(before);
+        let mut constant = 0;
+        for hits in 0..usize::from(most) + 1 {
+            let h = hits as u64;
+            let pairs = h * h.saturating_sub(1);
+            let triples = h * (h.saturating_sub(1) * h.saturating_sub(2));
+            let given = sums[first + hits] + self.overlap * pairs;
+            constant = given
+                .saturating_sub(self.worth * h + self.triple * triples)
+                .max(constant);
+        }
+        constant
+    }
+}
+
+/// The triple of a cubic.
+fn triple_of(sums: &[u64; PLACES], before: u8, touch: u8) -> u64
+    requires { AreSmallSums sums.now }
+    ensures value { result ≡ triple_at sums.now before touch }
+    ensures small { result ≤ most_sum sums.now }
+{
+    bend_of(sums, contact_at(before, touch)) / 6
+}
+
+/// The number of further hits at which the cubic of a ballot with `approved` free candidates is exact first: somewhat
+/// above the mean number of hits if the free candidates that join are drawn at random, since good committees have more.
+fn touch_at(node: &Node, approved: u8) -> u8
+    requires some { 1 ≤ length node.now.free }
+    requires few { approved ≤ most_candidates }
+    ensures value { result ≡ touch_of node.now.left (length node.now.free) approved }
+    ensures small { result ≤ 61 }
+{
+    let most = node.left.min(approved).max(3);
+    let free = u32::from(node.free.len());
+    let above = (9 * u32::from(node.left) * u32::from(approved)).saturating_sub(4 * free);
+    (above / (8 * free)).min(u32::from(most) - 3) as u8
+}
+
+/// The number of hits at which a cubic is exact first, as far as that can be.
+fn contact_at(before: u8, touch: u8) -> usize
+    ensures { result ≡ contact before touch }
+{
+    (usize::from(before) + usize::from(touch)).min(PLACES - 4)
+}
+
+/// What the hit after the first `hits` adds.
+fn increment_of(sums: &[u64; PLACES], hits: usize) -> u64
+    requires { hits ≤ 63 }
+    ensures { result ≡ increment_at sums.now hits }
+{
+    sums[hits + 1].saturating_sub(sums[hits])
+}
+
+/// How much less the next hit adds.
+fn fall_of(sums: &[u64; PLACES], hits: usize) -> u64
+    requires { hits ≤ 62 }
+    ensures { result ≡ fall_at sums.now hits }
+{
+    increment_of(sums, hits).saturating_sub(increment_of(sums, hits + 1))
+}
+
+/// How much less the next hit falls by.
+fn bend_of(sums: &[u64; PLACES], hits: usize) -> u64
+    requires { hits ≤ 61 }
+    ensures { result ≡ bend_at sums.now hits }
+{
+    fall_of(sums, hits).saturating_sub(fall_of(sums, hits + 1))
+}
