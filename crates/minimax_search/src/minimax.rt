@@ -68,9 +68,8 @@ impl<'a, A: Allocator + Copy + Drop> MinimaxSearch<'a, A> {
 
 impl<A: Allocator + Copy> MinimaxSearch<'_, A> {
     /// A committee that a walk has reached, from which no ballot is farther than `most`. If the node's set is empty, a
-    /// second walk begins with the committee that was found last. Without it, one of eleven elections with ten
-    /// parties took eight times as long, and one with five parties over forty times. The caller tests the committee, so
-    /// any set would do.
+    /// second walk begins with the committee that was found last. Without it, one election with ten parties took eight
+    /// times as long, and one with five parties over forty times. The caller tests the committee, so any set would do.
     fn walked(&self, node: &Node, most: u8) -> Option<CandSet> {
         let members = Walk::from(self.profile, node, CandSet::empty()).reaching(most);
         if members.is_some() || !node.set.is_empty() {
