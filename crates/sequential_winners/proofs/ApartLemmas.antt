@@ -1,6 +1,6 @@
 -- Tied candidates, no two of whom share a voter whose next hit adds something, and candidates who tie for long, by a
 -- table of those who are near one another.
-use Rattle.std.proofs.Common.{◌≡◌, ℕ, ◌+◌, ◌-◌, ◌*◌, ◌<◌, ◌≤◌, ◌==◌, ◌||◌, ◌&&◌, ◌∙◌, true, false, List, [], ◌∷◌, refl, filter, length, sym, ap, subst, arith, inl, inr}
+use Rattle.std.proofs.Common.{◌≡◌, ℕ, ◌+◌, ◌-◌, ◌*◌, ◌<◌, ◌≤◌, ◌==◌, ◌||◌, ◌&&◌, ◌∙◌, true, false, List, [], ◌∷◌, refl, filter, length, ap, subst, arith, inl, inr}
 use Rattle.std.proofs.lemmas.Bool.{cases_Bool, and_from, both_ways, or_right}
 use Rattle.std.proofs.Math.Bool.{and_comm}
 use Rattle.std.specs.Prelude.{nat_lt}

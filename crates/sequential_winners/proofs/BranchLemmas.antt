@@ -1,5 +1,5 @@
 -- Of whom one is chosen next, if the choices lead to a committee that a question asks for.
-use Rattle.std.proofs.Common.{◌≡◌, ℕ, suc, ◌-◌, ◌<◌, ◌≤◌, ◌==◌, ◌∙◌, Bool, true, false, not, None, List, [], sym, subst, arith, inl, inr, length}
+use Rattle.std.proofs.Common.{◌≡◌, ℕ, suc, ◌-◌, ◌<◌, ◌≤◌, ◌==◌, ◌∙◌, Bool, true, false, not, List, [], sym, subst, arith, inl, inr, length}
 use Rattle.std.specs.Prelude.{fold}
 use Rattle.std.specs.List.{AllByRecursion}
 use Rattle.std.proofs.lemmas.Bool.{cases_Bool, both_ways, and_from, not_from_false, ne_eqb}
@@ -12,7 +12,7 @@ use Rattle.tie_walk.specs.Steps.Choices.{step_of, choices_of, change, open_candi
 use Rattle.tie_walk.specs.declared.sequential.SeqRule.{SeqRule}
 use Rattle.tie_walk.proofs.RowSums.{AreBallots}
 use Rattle.sequential_winners.specs.Steps.Families.{may_be_in}
-use Rattle.sequential_winners.specs.Steps.Levels.{chosen, tied_worth, end_by, ties_by, begun_by, LeadsTo, AreApartBy, HasEnoughTiedBy}
+use Rattle.sequential_winners.specs.Steps.Levels.{chosen, tied_worth, ties_by, begun_by, LeadsTo, AreApartBy, HasEnoughTiedBy}
 use Rattle.sequential_winners.specs.Steps.Questions.{family_of, IsAsked, LeadsOn, IsLive, IsDead, AreBranches}
 use Rattle.sequential_winners.proofs.PhaseLemmas.{IsApart, IsSpread, member-with, apart-leads, spreads, within-all, chosen-first}
 use Rattle.sequential_winners.proofs.QuestionLemmas.{asked-increasing, asked-size, asked-spans, spans-asked, without-is}

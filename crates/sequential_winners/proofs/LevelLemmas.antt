@@ -1,7 +1,7 @@
 -- The families of a level have exactly the sets that all choices make.
 use Rattle.std.proofs.lemmas.Grind.{common_steps}
 use Rattle.std.proofs.Common.{◌≡◌, ℕ, zero, suc, ◌+◌, ◌-◌, ◌*◌, ◌<◌, ◌≤◌, ◌==◌, Option, Some, None, ◌∙◌, Bool, true, false, cond, List, [], ◌∷◌, refl, sym, ap, subst, arith, inl, inr, filter, length, Contains}
-use Rattle.std.specs.Prelude.{nat_le, nat_lt, slice_index_or}
+use Rattle.std.specs.Prelude.{nat_le, nat_lt}
 use Rattle.std.specs.List.{AllByRecursion}
 use Rattle.std.proofs.lemmas.List.Elements.{recursion_from_All, All-weaker, All-contains_itself}
 use Rattle.std.specs.List.Sorted.{IsStrictlySortedBy}
@@ -11,11 +11,10 @@ use Rattle.std.proofs.lemmas.Bool.{cases_Bool, cases_eq, cases_lt, le-leb, lt-le
 use Rattle.ballot_base.specs.Lists.{IsIncreasing}
 use Rattle.ballot_base.specs.CandSet.{has_member, other_members}
 use Rattle.ballot_base.specs.Ballots.{Row}
-use Rattle.ballot_base.specs.Clones.{are_clones}
 use Rattle.ballot_base.proofs.ListLemmas.{Contains-later, Contains-map, Contains-from_map, Contains-from_flat_map}
 use Rattle.ballot_base.proofs.Increasing.{has_member_head, has_member_tail}
 use Rattle.ballot_base.proofs.Passed.{filter-member, filter-stays}
-use Rattle.tie_walk.specs.Steps.Choices.{change, is_choice, open_candidates, start}
+use Rattle.tie_walk.specs.Steps.Choices.{change, is_choice, start}
 use Rattle.tie_walk.specs.declared.sequential.Step.{Step}
 use Rattle.tie_walk.specs.declared.sequential.Step.TheVariants.{Grow, Shrink}
 use Rattle.tie_walk.proofs.Choices.{Contains-flat_map, reached_none}

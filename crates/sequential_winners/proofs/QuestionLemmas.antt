@@ -12,7 +12,7 @@ use Rattle.ballot_base.specs.Ballots.{Row, Election}
 use Rattle.ballot_base.specs.Clones.{are_clones}
 use Rattle.ballot_base.proofs.Committees.{increasing_lists-contains, chosen-from_contains}
 use Rattle.tie_walk.specs.Sequences.{hit_weights, is_sequential_winner}
-use Rattle.tie_walk.specs.Steps.Choices.{step_of, choices_of, change, is_choice, open_candidates, start}
+use Rattle.tie_walk.specs.Steps.Choices.{step_of, choices_of, change, is_choice, start}
 use Rattle.tie_walk.proofs.Choices.{reached_none}
 use Rattle.tie_walk.specs.declared.sequential.SeqRule.{SeqRule}
 use Rattle.tie_walk.specs.declared.sequential.SeqRule.TheVariants.{SeqPav, SeqCc, RevSeqPav}
@@ -23,14 +23,14 @@ use Rattle.tie_walk.proofs.RowSums.{AreBallots}
 use Rattle.sequential_winners.specs.Clones.{is_between}
 use Rattle.sequential_winners.specs.Families.{Sequential, sequential_of, is_winner, some_winner}
 use Rattle.sequential_winners.specs.Steps.Families.{may_be_in}
-use Rattle.sequential_winners.specs.Steps.Levels.{chosen, end_by, beginners_by, followers_by, IsAhead, LeadsTo}
+use Rattle.sequential_winners.specs.Steps.Levels.{chosen, end_by, followers_by, IsAhead, LeadsTo}
 use Rattle.sequential_winners.specs.Steps.Questions.{family_of, finish, IsAsked, LeadsOn, IsLive, IsDead}
 use Rattle.sequential_winners.proofs.CompletionLemmas.{joined-increasing, may-is}
 use Rattle.sequential_winners.proofs.FamilyLemmas.{is_spanned, spanned-from, spanned-at}
 use Rattle.sequential_winners.proofs.Leads.{reached-chosen, ahead-turned, leads-ahead, leads-within, span-leads}
-use Rattle.sequential_winners.proofs.LevelLemmas.{made-complete, made-from, made-sound, level-first, first-is, begins-tied, changed-contains, changed-from, ends-contains, last-only}
+use Rattle.sequential_winners.proofs.LevelLemmas.{made-complete, made-from, made-sound, level-first, first-is, ends-contains, last-only}
 use Rattle.sequential_winners.proofs.Lists.{Contains-only, count-others, member-without}
-use Rattle.sequential_winners.proofs.SpanLemmas.{end-span, tied-open}
+use Rattle.sequential_winners.proofs.SpanLemmas.{end-span}
 use Rattle.sequential_winners.proofs.WinnerLemmas.{any-from, any-at, hit_weights-fall, hit_weights-count, rule-size, reached-wins, winner-reached}
 
 -- the set after all choices is further on than any other

@@ -1,7 +1,7 @@
 -- What one choice does to a family, as the code finds it.
 use Rattle.std.proofs.lemmas.Grind.{common_steps}
 use Rattle.std.proofs.Common.{◌≡◌, ℕ, ◌+◌, ◌*◌, ◌-◌, ◌<◌, ◌≤◌, ◌==◌, ◌&&◌, ◌||◌, ◌∙◌, cond, length, not, Some, None, Bool, true, false, List, [], ◌∷◌, refl, sym, ap, arith, filter, map, subst, get_or}
-use Rattle.std.specs.Prelude.{fold, nat_le, nat_lt, slice_index_or, sum_by}
+use Rattle.std.specs.Prelude.{fold, nat_le, nat_lt, sum_by}
 use Rattle.std.proofs.Math.Bool.{and-true}
 use Rattle.std.specs.List.{list_all, range_with_len, AllByRecursion}
 use Rattle.std.proofs.lemmas.Bool.{and_parts, and_from, not-true, both_ways, cases_eq, eq-eqb, ne_eqb, le-leb, le-ltb, leb-true}

@@ -1,5 +1,5 @@
 -- Tables that hold, for each candidate, others who are near it.
-use Rattle.std.specs.Prelude.{◌≡◌, ℕ, ◌⊎◌, ◌<◌, ◌-◌, ◌*◌, nat_lt, fold, true, false, List, [], length, slice_index_or, if◌then◌else◌}
+use Rattle.std.specs.Prelude.{◌≡◌, ℕ, ◌⊎◌, ◌<◌, ◌*◌, nat_lt, fold, true, false, List, [], length, slice_index_or, if◌then◌else◌}
 use Rattle.ballot_base.specs.CandSet.{has_member, with_member}
 
 -- the candidate, and those that the table holds for it

@@ -1,4 +1,4 @@
-use Rattle.std.proofs.Common.{◌≡◌, ◌∙◌, ap}
+use Rattle.std.proofs.Common.{◌∙◌, ap}
 use Rattle.ballot_base.specs.Limits.{most_candidates}
 use Rattle.tie_walk.specs.Sequences.{hit_weights}
 use Rattle.tie_walk.specs.Steps.Choices.{step_of}

@@ -40,8 +40,8 @@ apart-are g c =
     let e = s.profile.now in
     apart-of (step_of s.rule) (hit_weights s.rule e.m) e.rows c.args.from e.m c.m.ensures.valid.most c.args.ties c.nearness-near.result c.requires.ties c.nearness-near.ensures c.apart-apart.result c.apart-apart.ensures.rises
     (λ n inside.
-        (and_parts (has_member c.allowed.result n) (has_member c.args.ties n)
-        (sym (has_member-filter (has_member c.allowed.result) c.args.ties n) ∙ subst (λ l. has_member l n ≡ true) c.common-allowed.ensures (c.apart-apart.ensures.among n inside))).1)
+    (and_parts (has_member c.allowed.result n) (has_member c.args.ties n)
+    (sym (has_member-filter (has_member c.allowed.result) c.args.ties n) ∙ subst (λ l. has_member l n ≡ true) c.common-allowed.ensures (c.apart-apart.ensures.among n inside))).1)
     c.apart-apart.ensures.far
 
 pub has_between-requires-clause-end : goal.has_between-requires-clause-end
