@@ -1,5 +1,5 @@
 -- Of whom one is chosen next, if the choices lead to a committee that a question asks for.
-use Rattle.std.proofs.Common.{◌≡◌, ℕ, suc, ◌-◌, ◌<◌, ◌≤◌, ◌==◌, ◌∙◌, Bool, true, false, not, None, List, [], sym, subst, arith, inl, inr, length}
+use Rattle.std.proofs.Common.{◌≡◌, ℕ, suc, ◌-◌, ◌<◌, ◌≤◌, ◌==◌, ◌∙◌, Bool, true, false, not, List, [], sym, subst, arith, inl, inr, length}
 use Rattle.std.specs.Prelude.{fold}
 use Rattle.std.specs.List.{AllByRecursion}
 use Rattle.std.proofs.lemmas.Bool.{cases_Bool, both_ways, and_from, not_from_false, ne_eqb}
@@ -12,10 +12,11 @@ use Rattle.tie_walk.specs.Steps.Choices.{step_of, choices_of, change, open_candi
 use Rattle.tie_walk.specs.declared.sequential.SeqRule.{SeqRule}
 use Rattle.tie_walk.proofs.RowSums.{AreBallots}
 use Rattle.sequential_winners.specs.Steps.Families.{may_be_in}
-use Rattle.sequential_winners.specs.Steps.Levels.{chosen, tied_worth, end_by, ties_by, beginners_by, LeadsTo, AreApartBy, HasEnoughTiedBy}
+use Rattle.sequential_winners.specs.Steps.Levels.{chosen, tied_worth, ties_by, begun_by, LeadsTo, AreApartBy, HasEnoughTiedBy}
 use Rattle.sequential_winners.specs.Steps.Questions.{family_of, IsAsked, LeadsOn, IsLive, IsDead, AreBranches}
 use Rattle.sequential_winners.proofs.PhaseLemmas.{IsApart, IsSpread, member-with, apart-leads, spreads, within-all, chosen-first}
-use Rattle.sequential_winners.proofs.QuestionLemmas.{asked-increasing, asked-size, asked-spans, spans-asked, begins-open, begun-live, begun-dead, without-is}
+use Rattle.sequential_winners.proofs.QuestionLemmas.{asked-increasing, asked-size, asked-spans, spans-asked, without-is}
+use Rattle.sequential_winners.proofs.LevelLemmas.{begins-tied, tied-first, begun-first}
 use Rattle.sequential_winners.proofs.SpanLemmas.{changed-all, tied-increasing, tied-is, tied-open}
 use Rattle.sequential_winners.proofs.Lists.{member-without, with-itself}
 use Rattle.sequential_winners.proofs.Picked.{chosen-change}
@@ -41,13 +42,42 @@ module _ (rule : SeqRule) (e : Election) (from : List ℕ) where
 module _ (rule : SeqRule) (e : Election) (k : ℕ) (fits : k ≤ e.m) (c : ℕ) (set : List ℕ) (ballots : AreBallots e.m e.rows) (counts : AllByRecursion (λ (row : Row). 0 < row.1) e.rows) (from : List ℕ) (from-up : IsIncreasing 1 e.m from)
     (more : chosen (step_of rule) e.m from < choices_of rule e.m k)
   where
-    -- who begins
-    pub begun-branches : end_by rule e from ≡ None → AreBranches rule e k c set from (beginners_by rule e (choices_of rule e.m k - chosen (step_of rule) e.m from) from)
-    begun-branches none = record {
-      free = λ n inside. begins-open rule e (choices_of rule e.m k - chosen (step_of rule) e.m from) from n inside;
-      live = λ n inside live. begun-live rule e k fits c set ballots counts from from-up more n none inside live;
-      dead = λ all. begun-dead rule e k fits c set ballots counts from from-up more none all;
+    one-less : (u : ℕ) → has_member (ties_by rule e from) u ≡ true → suc (choices_of rule e.m k - chosen (step_of rule) e.m (change (step_of rule) from u)) ≡ choices_of rule e.m k - chosen (step_of rule) e.m from
+    one-less u tie = omega (arith, more, chosen-change (step_of rule) e.m from u from-up (tied-open (step_of rule) (hit_weights rule e.m) e.m e.rows from u tie))
+
+    -- tied candidates with one of whom some choices begin, whatever is made of the set
+    tied-branches : (among : List ℕ) → ((n : ℕ) → has_member among n ≡ true → has_member (ties_by rule e from) n ≡ true)
+        → ((made : List ℕ) (left : ℕ) → suc left ≡ choices_of rule e.m k - chosen (step_of rule) e.m from → LeadsTo (step_of rule) (hit_weights rule e.m) e.m e.rows made (suc left) from
+        → (v : ℕ) × (has_member among v ≡ true) × LeadsTo (step_of rule) (hit_weights rule e.m) e.m e.rows made left (change (step_of rule) from v))
+        → AreBranches rule e k c set from among
+    tied-branches among tied first = record {
+      free = λ n inside. tied-open (step_of rule) (hit_weights rule e.m) e.m e.rows from n (tied n inside);
+      live = λ n inside live. (
+        live.0,
+        live.1,
+        subst (λ i. LeadsTo (step_of rule) (hit_weights rule e.m) e.m e.rows live.0 i from) (one-less n (tied n inside)) (n, tied-is (step_of rule) (hit_weights rule e.m) e.m e.rows from n (tied n inside), live.2),
+      );
+      dead = λ all made asked leads.
+          let n : suc (choices_of rule e.m k - chosen (step_of rule) e.m from - 1) ≡ choices_of rule e.m k - chosen (step_of rule) e.m from = omega (arith, more) in
+          let v = first made (choices_of rule e.m k - chosen (step_of rule) e.m from - 1) n (subst (λ i. LeadsTo (step_of rule) (hit_weights rule e.m) e.m e.rows made i from) (sym n) leads) in
+          let i : choices_of rule e.m k - chosen (step_of rule) e.m from - 1 ≡ choices_of rule e.m k - chosen (step_of rule) e.m (change (step_of rule) from v.0) = omega (arith, one-less v.0 (tied v.0 v.1)) in
+          all v.0 v.1 made asked (subst (λ j. LeadsTo (step_of rule) (hit_weights rule e.m) e.m e.rows made j (change (step_of rule) from v.0)) i v.2);
     }
+
+    -- all who tie
+    pub all-branches : (among : List ℕ) → among ≡ ties_by rule e from → AreBranches rule e k c set from among
+    all-branches among is =
+        subst (AreBranches rule e k c set from) (sym is) (tied-branches (ties_by rule e from) (λ n inside. inside) (λ made left sized leads. tied-first (step_of rule) (hit_weights rule e.m) e.m e.rows ballots (hit_weights-fall rule e.m) from from-up made left leads))
+
+    -- those with whom the choices begin, whoever is the centre
+    pub begun-branches : (middle : ℕ) → has_member (ties_by rule e from) middle ≡ true → (left : ℕ) → left ≡ choices_of rule e.m k - chosen (step_of rule) e.m from
+        → (among : List ℕ) → among ≡ begun_by rule e left from middle → AreBranches rule e k c set from among
+    begun-branches middle tie left left-is among is =
+        subst (AreBranches rule e k c set from) (sym is)
+        (tied-branches (begun_by rule e left from middle) (λ n inside. begins-tied (step_of rule) (hit_weights rule e.m) e.m e.rows left from middle n inside)
+        (λ made less sized leads.
+        let v = begun-first (step_of rule) (hit_weights rule e.m) e.m e.rows ballots (hit_weights-fall rule e.m) from from-up made less leads counts (hit_weights-count rule e.m) middle tie in
+        (v.0, subst (λ i. has_member (begun_by rule e i from middle) v.0 ≡ true) (sized ∙ sym left-is) v.1, v.2)))
 
     -- nobody, where the set leads to nothing
     pub no-branches : IsDead rule e k c set from → AreBranches rule e k c set from []

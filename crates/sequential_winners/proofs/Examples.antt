@@ -1,5 +1,5 @@
 -- Each definition, computed on a small example.
-use Rattle.std.proofs.Common.{◌≡◌, [], ◌∷◌, true, false, Some, None, refl}
+use Rattle.std.proofs.Common.{◌≡◌, ◌-◌, [], ◌∷◌, true, false, Some, None, refl}
 use Rattle.ballot_base.specs.Ballots.{Election, election}
 use Rattle.ballot_base.specs.CommonMultiple.{common_multiple}
 use Rattle.ballot_base.specs.Lists.{lists_of}
@@ -10,7 +10,8 @@ use Rattle.ballot_base.specs.Clones.{are_clones, clones_among}
 use Rattle.sequential_winners.specs.Clones.{clone_count, has_as_many, is_between}
 use Rattle.sequential_winners.specs.Families.{sequential_of, is_winner, some_winner}
 use Rattle.sequential_winners.specs.Steps.Families.{may_be_in}
-use Rattle.sequential_winners.specs.Steps.Levels.{is_first_open, is_settled, has_settled, ties, tied_worth, next_hit, share_voter, is_near, given_share, given, beginners, shares_no_voter, is_independent, end, chosen, followers, family_changes, other_end}
+use Rattle.sequential_winners.specs.Steps.Near.{near_of, first_least}
+use Rattle.sequential_winners.specs.Steps.Levels.{is_first_open, is_settled, has_settled, ties, tied_worth, next_hit, share_voter, is_near, given_share, given, centre, beginners, shares_no_voter, is_independent, end, chosen, followers, family_changes, other_end}
 use Rattle.sequential_winners.specs.Steps.Tables.{completed}
 
 -- of the candidates 1 to 5, three voters approve 1 and 2, and one voter 3; nobody approves 4 and 5
@@ -74,6 +75,10 @@ ends = (refl, refl, refl)
 around : Election
 around = election 4 ([] ∷ [] ∷ [] ∷ [] ∷ [] ∷ []) ((1 ∷ 2 ∷ [], 1) ∷ (2 ∷ 3 ∷ [], 1) ∷ (3 ∷ 4 ∷ [], 1) ∷ (1 ∷ 4 ∷ [], 1) ∷ [])
 
+-- five who tie: 1, 2 and 3 share a voter, 1, 4 and 5 another, and each of 2 to 5 has one of its own
+joined : Election
+joined = election 5 ([] ∷ [] ∷ [] ∷ [] ∷ [] ∷ [] ∷ []) ((1 ∷ 2 ∷ 3 ∷ [], 1) ∷ (1 ∷ 4 ∷ 5 ∷ [], 1) ∷ (2 ∷ [], 1) ∷ (3 ∷ [], 1) ∷ (4 ∷ [], 1) ∷ (5 ∷ [], 1) ∷ [])
+
 -- a voter who is covered gives nothing more
 next_hits : (next_hit Grow (hit_weights SeqCc 4) [] (1 ∷ 2 ∷ [], 1) ≡ 1) × (next_hit Grow (hit_weights SeqCc 4) (1 ∷ []) (1 ∷ 2 ∷ [], 1) ≡ 0)
 unfolding hit_weights
@@ -86,6 +91,20 @@ shared = (refl, refl, refl)
 near_one : (is_near Grow (hit_weights SeqCc 4) around.rows [] 1 1 ≡ true) × (is_near Grow (hit_weights SeqCc 4) around.rows [] 1 4 ≡ true) × (is_near Grow (hit_weights SeqCc 4) around.rows [] 1 3 ≡ false)
 unfolding around hit_weights
 near_one = (refl, refl, refl)
+
+-- a candidate is near itself, and so are those whom a table holds for it
+near_in_table : (near_of ([] ∷ (2 ∷ 4 ∷ []) ∷ []) 1 ≡ 1 ∷ 2 ∷ 4 ∷ []) × (near_of [] 3 ≡ 3 ∷ [])
+near_in_table = (refl, refl)
+
+-- of equal numbers, the first
+least_first : (first_least (λ c. 5 - c) (1 ∷ 2 ∷ 3 ∷ []) ≡ 3) × (first_least (λ c. 7) (2 ∷ 3 ∷ []) ≡ 2)
+least_first = (refl, refl)
+
+-- All four of the circle have two others near them, so 1 is the centre. Where 1, 2 and 3 share a voter, as do 1, 4 and
+-- 5, four are near 1, and two near each of the others.
+in_the_middle : (centre Grow (hit_weights SeqCc 4) 4 around.rows [] ≡ 1) × (centre Grow (hit_weights SeqCc 5) 5 joined.rows [] ≡ 2)
+unfolding around joined hit_weights
+in_the_middle = (refl, refl)
 
 -- a voter gives once for all candidates that it approves, and a voter who is covered gives nothing
 gives : (given_share Grow (hit_weights SeqCc 4) [] (1 ∷ 2 ∷ []) (1 ∷ 2 ∷ [], 1) ≡ 1) × (given_share Grow (hit_weights SeqCc 4) [] (3 ∷ []) (1 ∷ 2 ∷ [], 1) ≡ 0) × (given Grow (hit_weights SeqCc 4) around.rows [] (3 ∷ []) ≡ 2) × (given Grow (hit_weights SeqCc 4) around.rows (1 ∷ []) (2 ∷ 4 ∷ []) ≡ 2)

@@ -1,7 +1,7 @@
 -- The families of a level have exactly the sets that all choices make.
 use Rattle.std.proofs.lemmas.Grind.{common_steps}
-use Rattle.std.proofs.Common.{◌≡◌, ℕ, zero, suc, ◌+◌, ◌-◌, ◌*◌, ◌<◌, ◌≤◌, ◌==◌, Option, Some, None, ◌∙◌, Bool, true, false, cond, List, [], ◌∷◌, refl, sym, ap, subst, arith, inl, inr, filter, Contains}
-use Rattle.std.specs.Prelude.{nat_le, nat_lt, slice_index_or}
+use Rattle.std.proofs.Common.{◌≡◌, ℕ, zero, suc, ◌+◌, ◌-◌, ◌*◌, ◌<◌, ◌≤◌, ◌==◌, Option, Some, None, ◌∙◌, Bool, true, false, cond, List, [], ◌∷◌, refl, sym, ap, subst, arith, inl, inr, filter, length, Contains}
+use Rattle.std.specs.Prelude.{nat_le, nat_lt}
 use Rattle.std.specs.List.{AllByRecursion}
 use Rattle.std.proofs.lemmas.List.Elements.{recursion_from_All, All-weaker, All-contains_itself}
 use Rattle.std.specs.List.Sorted.{IsStrictlySortedBy}
@@ -11,17 +11,16 @@ use Rattle.std.proofs.lemmas.Bool.{cases_Bool, cases_eq, cases_lt, le-leb, lt-le
 use Rattle.ballot_base.specs.Lists.{IsIncreasing}
 use Rattle.ballot_base.specs.CandSet.{has_member, other_members}
 use Rattle.ballot_base.specs.Ballots.{Row}
-use Rattle.ballot_base.specs.Clones.{are_clones}
 use Rattle.ballot_base.proofs.ListLemmas.{Contains-later, Contains-map, Contains-from_map, Contains-from_flat_map}
 use Rattle.ballot_base.proofs.Increasing.{has_member_head, has_member_tail}
 use Rattle.ballot_base.proofs.Passed.{filter-member, filter-stays}
-use Rattle.tie_walk.specs.Steps.Choices.{change, is_choice, open_candidates, start}
+use Rattle.tie_walk.specs.Steps.Choices.{change, is_choice, start}
 use Rattle.tie_walk.specs.declared.sequential.Step.{Step}
 use Rattle.tie_walk.specs.declared.sequential.Step.TheVariants.{Grow, Shrink}
 use Rattle.tie_walk.proofs.Choices.{Contains-flat_map, reached_none}
 use Rattle.tie_walk.proofs.LawLemmas.{IsIncreasing-range}
 use Rattle.tie_walk.proofs.RowSums.{AreBallots}
-use Rattle.sequential_winners.specs.Steps.Levels.{ties, tied_worth, given, is_near, beginners, end, chosen, followed, followers, family_changes, IsNextFamilies, IsFalling, AllCount, IsReachedBy, LeadsTo, IsPlaced, IsFamilyLevel}
+use Rattle.sequential_winners.specs.Steps.Levels.{ties, tied_worth, given, is_near, beginners_at, centre, beginners, end, chosen, followed, followers, family_changes, IsNextFamilies, IsFalling, AllCount, IsReachedBy, LeadsTo, IsPlaced, IsFamilyLevel}
 use Rattle.sequential_winners.proofs.CloneLemmas.{clones-turned}
 use Rattle.sequential_winners.proofs.Lists.{Contains-only}
 use Rattle.sequential_winners.proofs.Picked.{change-increasing, chosen-change}
@@ -29,6 +28,7 @@ use Rattle.sequential_winners.proofs.Leads.{reached-chosen, chosen-ahead, leads-
 use Rattle.sequential_winners.proofs.SpanLemmas.{tied-is, tied-open, tied-class, end-span}
 use Rattle.sequential_winners.proofs.PhaseLemmas.{begins-near}
 use Rattle.sequential_winners.proofs.GivenLemmas.{some-factor}
+use Rattle.sequential_winners.proofs.TableNear.{least-member}
 use Rattle.sequential_winners.proofs.TiedClones.{change-ahead, choice-open}
 
 -- ---- what follows a set
@@ -53,16 +53,50 @@ of-member (y ∷ xs) x inside = elim (cases_eq y x) [
 ]
 
 -- who is followed ties
-pub begins-tied : (step : Step) (weights : List ℕ) (m : ℕ) (rows : List Row) (left : ℕ) (set : List ℕ) (c : ℕ) → has_member (beginners step weights m rows left set) c ≡ true → has_member (ties step weights m rows set) c ≡ true
-begins-tied step weights m rows left set c = by (nat_lt (given step weights rows set (other_members (ties step weights m rows set) (filter (is_near step weights rows set (slice_index_or (ties step weights m rows set) 0 0)) (ties step weights m rows set)))) (left * tied_worth step weights m rows set))
+pub begins-tied : (step : Step) (weights : List ℕ) (m : ℕ) (rows : List Row) (left : ℕ) (set : List ℕ) (middle c : ℕ) → has_member (beginners_at step weights m rows left set middle) c ≡ true → has_member (ties step weights m rows set) c ≡ true
+begins-tied step weights m rows left set middle c = by (nat_lt (given step weights rows set (other_members (ties step weights m rows set) (filter (is_near step weights rows set middle) (ties step weights m rows set)))) (left * tied_worth step weights m rows set))
   where
-    by : (b : Bool) → has_member (cond b (filter (is_near step weights rows set (slice_index_or (ties step weights m rows set) 0 0)) (ties step weights m rows set)) (ties step weights m rows set)) c ≡ true → has_member (ties step weights m rows set) c ≡ true
-    by true inside = filter-member (is_near step weights rows set (slice_index_or (ties step weights m rows set) 0 0)) (ties step weights m rows set) c inside
+    by : (b : Bool) → has_member (cond b (filter (is_near step weights rows set middle) (ties step weights m rows set)) (ties step weights m rows set)) c ≡ true → has_member (ties step weights m rows set) c ≡ true
+    by true inside = filter-member (is_near step weights rows set middle) (ties step weights m rows set) c inside
     by false inside = inside
 
-first-member : (xs : List ℕ) (x : ℕ) → has_member xs x ≡ true → has_member xs (slice_index_or xs 0 0) ≡ true
-first-member [] x inside = absurd (let f : false ≡ true = inside in cc)
-first-member (y ∷ xs) x inside = has_member_head y xs
+-- the centre is one of those who tie
+pub centre-tied : (step : Step) (weights : List ℕ) (m : ℕ) (rows : List Row) (set : List ℕ) (d : ℕ) → has_member (ties step weights m rows set) d ≡ true → has_member (ties step weights m rows set) (centre step weights m rows set) ≡ true
+centre-tied step weights m rows set = least-member (λ c. length (filter (is_near step weights rows set c) (ties step weights m rows set))) (ties step weights m rows set)
+
+module _ (step : Step) (weights : List ℕ) (m : ℕ) (rows : List Row) (ballots : AreBallots m rows) (falls : IsFalling weights) (set : List ℕ) (up : IsIncreasing 1 m set) (made : List ℕ) (left : ℕ) (leads : LeadsTo step weights m rows made (suc left) set) where
+  -- what the choices from a set lead to, they lead to from the set with one who ties
+  pub tied-first : (d : ℕ) × (has_member (ties step weights m rows set) d ≡ true) × LeadsTo step weights m rows made left (change step set d)
+  tied-first =
+      let c : ℕ = leads.0 in
+      let free = choice-open step weights m rows set c leads.1 in
+      let d = tied-class step weights m rows ballots falls set up c leads.1 in
+      let free' = tied-open step weights m rows set d.0 d.1 in (
+        d.0,
+        d.1,
+        leads-moved step weights m rows ballots falls left made (change step set c) (change step set d.0) (change-increasing step m set c up free) (change-increasing step m set d.0 up free') (
+          change-ahead step weights m rows set set c d.0 up up free free' d.2 (λ x. omega arith),
+          change-ahead step weights m rows set set d.0 c up up free' free (clones-turned rows c d.0 d.2) (λ x. omega arith),
+        )
+            leads.2,
+      )
+
+  -- and with one of those who are followed, whoever of the tied candidates is the centre
+  pub begun-first : (counts : AllByRecursion (λ (row : Row). 0 < row.1) rows) (all-count : AllCount step m weights) (middle : ℕ) → has_member (ties step weights m rows set) middle ≡ true
+      → (v : ℕ) × (has_member (beginners_at step weights m rows (suc left) set middle) v ≡ true) × LeadsTo step weights m rows made left (change step set v)
+  begun-first counts all-count middle tie = by (nat_lt far-given (suc left * tied_worth step weights m rows set)) refl
+    where
+      far-given : ℕ
+      far-given = given step weights rows set (other_members (ties step weights m rows set) (filter (is_near step weights rows set middle) (ties step weights m rows set)))
+
+      by : (b : Bool) → nat_lt far-given (suc left * tied_worth step weights m rows set) ≡ b
+          → (v : ℕ) × (has_member (cond b (filter (is_near step weights rows set middle) (ties step weights m rows set)) (ties step weights m rows set)) v ≡ true) × LeadsTo step weights m rows made left (change step set v)
+      by false room = tied-first
+      by true room =
+          let less = ltb-true far-given (suc left * tied_worth step weights m rows set) room in
+          let v = begins-near step weights m rows ballots falls counts all-count set up (some-factor far-given (suc left) (tied_worth step weights m rows set) less) middle tie (suc left) less made leads in
+          let n : suc left - 1 ≡ left = omega arith in
+          (v.0, filter-stays (is_near step weights rows set middle) (ties step weights m rows set) v.0 v.1 v.2, subst (λ i. LeadsTo step weights m rows made i (change step set v.0)) n v.3)
 
 module _ (step : Step) (weights : List ℕ) (m : ℕ) (rows : List Row) (total : ℕ) where
   -- the sets that follow one
@@ -84,7 +118,7 @@ module _ (step : Step) (weights : List ℕ) (m : ℕ) (rows : List Row) (total :
           ]
       by None is here =
           let some = Contains-from_map (change step set) (beginners step weights m rows (total - chosen step m set) set) made here in
-          changed some.0 is (tied-is step weights m rows set some.0 (begins-tied step weights m rows (total - chosen step m set) set some.0 (member-of (beginners step weights m rows (total - chosen step m set) set) some.0 some.1))) some.2
+          changed some.0 is (tied-is step weights m rows set some.0 (begins-tied step weights m rows (total - chosen step m set) set (centre step weights m rows set) some.0 (member-of (beginners step weights m rows (total - chosen step m set) set) some.0 some.1))) some.2
 
   stays-contains : (set last : List ℕ) → end step weights m rows set ≡ Some last → total < chosen step m last → Contains (followers step weights m rows total set) set
   unfolding followers
@@ -173,40 +207,13 @@ module _ (step : Step) (weights : List ℕ) (m : ℕ) (rows : List Row) (total :
         by None none =
             let n : total - chosen step m set ≡ suc (total - chosen step m set - 1) = omega (arith, more) in
             let first : LeadsTo step weights m rows made (suc (total - chosen step m set - 1)) set = subst (λ i. LeadsTo step weights m rows made i set) n leads in
-            let c : ℕ = first.0 in
-            let free = choice-open step weights m rows set c first.1 in
-            let d = tied-class step weights m rows ballots falls set up c first.1 in
-            let v = begin (nat_lt far-given ((total - chosen step m set) * tied_worth step weights m rows set)) refl d.0 d.1
-            (moved c d.0 free d.1 d.2 first.2) in
-            let one = chosen-change step m set v.0 up (tied-open step weights m rows set v.0 (begins-tied step weights m rows (total - chosen step m set) set v.0 v.1)) in
-            let i : total - chosen step m set - 1 ≡ total - chosen step m (change step set v.0) = omega (arith, one) in
-            (change step set v.0, changed-contains set v.0 none v.1, subst (λ j. LeadsTo step weights m rows made j (change step set v.0)) i v.2)
-          where
-            -- a tied clone of the choice leads there too
-            moved : (c d : ℕ) → has_member (open_candidates step m set) c ≡ true → has_member (ties step weights m rows set) d ≡ true → are_clones rows c d ≡ true
-                → LeadsTo step weights m rows made (total - chosen step m set - 1) (change step set c) → LeadsTo step weights m rows made (total - chosen step m set - 1) (change step set d)
-            moved c d free tie clone rest =
-                let free' = tied-open step weights m rows set d tie in
-                leads-moved step weights m rows ballots falls (total - chosen step m set - 1) made (change step set c) (change step set d) (change-increasing step m set c up free) (change-increasing step m set d up free') (
-                  change-ahead step weights m rows set set c d up up free free' clone (λ x. omega arith),
-                  change-ahead step weights m rows set set d c up up free' free (clones-turned rows c d clone) (λ x. omega arith),
-                )
-                rest
-
-            far-given : ℕ
-            far-given = given step weights rows set (other_members (ties step weights m rows set) (filter (is_near step weights rows set (slice_index_or (ties step weights m rows set) 0 0)) (ties step weights m rows set)))
-
-            begin : (b : Bool) → nat_lt far-given ((total - chosen step m set) * tied_worth step weights m rows set) ≡ b → (d : ℕ) → has_member (ties step weights m rows set) d ≡ true
-                → LeadsTo step weights m rows made (total - chosen step m set - 1) (change step set d)
-                → (v : ℕ) × (has_member (cond b (filter (is_near step weights rows set (slice_index_or (ties step weights m rows set) 0 0)) (ties step weights m rows set)) (ties step weights m rows set)) v ≡ true)
-                × LeadsTo step weights m rows made (total - chosen step m set - 1) (change step set v)
-            begin false room d tie rest = (d, tie, rest)
-            begin true room d tie rest =
-                let less = ltb-true far-given ((total - chosen step m set) * tied_worth step weights m rows set) room in
-                let u = slice_index_or (ties step weights m rows set) 0 0 in
-                let v = begins-near step weights m rows ballots falls counts all-count set up (some-factor far-given (total - chosen step m set) (tied_worth step weights m rows set) less) u (first-member (ties step weights m rows set) d tie) (total - chosen step m set)
-                less made leads in
-                (v.0, filter-stays (is_near step weights rows set u) (ties step weights m rows set) v.0 v.1 v.2, v.3)
+            let d = tied-first step weights m rows ballots falls set up made (total - chosen step m set - 1) first in
+            let begun = begun-first step weights m rows ballots falls set up made (total - chosen step m set - 1) first counts all-count (centre step weights m rows set) (centre-tied step weights m rows set d.0 d.1) in
+            let inside : has_member (beginners step weights m rows (total - chosen step m set) set) begun.0 ≡ true =
+            subst (λ i. has_member (beginners step weights m rows i set) begun.0 ≡ true) (sym n) begun.1 in
+            let one = chosen-change step m set begun.0 up (tied-open step weights m rows set begun.0 (begins-tied step weights m rows (total - chosen step m set) set (centre step weights m rows set) begun.0 inside)) in
+            let i : total - chosen step m set - 1 ≡ total - chosen step m (change step set begun.0) = omega (arith, one) in
+            (change step set begun.0, changed-contains set begun.0 none inside, subst (λ j. LeadsTo step weights m rows made j (change step set begun.0)) i begun.2)
 
 -- ---- levels
 

@@ -17,6 +17,7 @@ pub mod RowLemmas
 pub mod SpanLemmas
 pub mod StepLemmas
 pub mod TableLemmas
+pub mod TableNear
 pub mod TiedClones
 pub mod ValueLemmas
 pub mod WinnerLemmas

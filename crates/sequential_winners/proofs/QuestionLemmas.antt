@@ -12,7 +12,7 @@ use Rattle.ballot_base.specs.Ballots.{Row, Election}
 use Rattle.ballot_base.specs.Clones.{are_clones}
 use Rattle.ballot_base.proofs.Committees.{increasing_lists-contains, chosen-from_contains}
 use Rattle.tie_walk.specs.Sequences.{hit_weights, is_sequential_winner}
-use Rattle.tie_walk.specs.Steps.Choices.{step_of, choices_of, change, is_choice, open_candidates, start}
+use Rattle.tie_walk.specs.Steps.Choices.{step_of, choices_of, change, is_choice, start}
 use Rattle.tie_walk.proofs.Choices.{reached_none}
 use Rattle.tie_walk.specs.declared.sequential.SeqRule.{SeqRule}
 use Rattle.tie_walk.specs.declared.sequential.SeqRule.TheVariants.{SeqPav, SeqCc, RevSeqPav}
@@ -23,14 +23,14 @@ use Rattle.tie_walk.proofs.RowSums.{AreBallots}
 use Rattle.sequential_winners.specs.Clones.{is_between}
 use Rattle.sequential_winners.specs.Families.{Sequential, sequential_of, is_winner, some_winner}
 use Rattle.sequential_winners.specs.Steps.Families.{may_be_in}
-use Rattle.sequential_winners.specs.Steps.Levels.{chosen, end_by, beginners_by, followers_by, IsAhead, LeadsTo}
+use Rattle.sequential_winners.specs.Steps.Levels.{chosen, end_by, followers_by, IsAhead, LeadsTo}
 use Rattle.sequential_winners.specs.Steps.Questions.{family_of, finish, IsAsked, LeadsOn, IsLive, IsDead}
 use Rattle.sequential_winners.proofs.CompletionLemmas.{joined-increasing, may-is}
 use Rattle.sequential_winners.proofs.FamilyLemmas.{is_spanned, spanned-from, spanned-at}
 use Rattle.sequential_winners.proofs.Leads.{reached-chosen, ahead-turned, leads-ahead, leads-within, span-leads}
-use Rattle.sequential_winners.proofs.LevelLemmas.{made-complete, made-from, made-sound, level-first, first-is, begins-tied, changed-contains, changed-from, ends-contains, last-only}
+use Rattle.sequential_winners.proofs.LevelLemmas.{made-complete, made-from, made-sound, level-first, first-is, ends-contains, last-only}
 use Rattle.sequential_winners.proofs.Lists.{Contains-only, count-others, member-without}
-use Rattle.sequential_winners.proofs.SpanLemmas.{end-span, tied-open}
+use Rattle.sequential_winners.proofs.SpanLemmas.{end-span}
 use Rattle.sequential_winners.proofs.WinnerLemmas.{any-from, any-at, hit_weights-fall, hit_weights-count, rule-size, reached-wins, winner-reached}
 
 -- the set after all choices is further on than any other
@@ -137,10 +137,6 @@ module _ (rule : SeqRule) (e : Election) (k : ℕ) (fits : k ≤ e.m) (c : ℕ) 
             from-up (λ y. omega arith) span.ahead (omega (arith, few, beyond)) leads in
             both_ways (asks (family_of (step_of rule) from last)) none (asked-spans from last from-up span.increasing made asked between.0 between.1)
 
--- who begins may be chosen
-pub begins-open : (rule : SeqRule) (e : Election) (left : ℕ) (from : List ℕ) (next : ℕ) → has_member (beginners_by rule e left from) next ≡ true → has_member (open_candidates (step_of rule) e.m from) next ≡ true
-begins-open rule e left from next inside = tied-open (step_of rule) (hit_weights rule e.m) e.m e.rows from next (begins-tied (step_of rule) (hit_weights rule e.m) e.m e.rows left from next inside)
-
 -- more choices are left where the set is not of size k
 pub choices-left : (rule : SeqRule) (m k : ℕ) (from : List ℕ) → k ≤ m → IsIncreasing 1 m from → chosen (step_of rule) m from ≤ choices_of rule m k → (length from ≡ k → ⊥) → chosen (step_of rule) m from < choices_of rule m k
 choices-left rule m k from fits up few other = elim (cases_lt (chosen (step_of rule) m from) (choices_of rule m k)) [
@@ -207,20 +203,12 @@ module _ (rule : SeqRule) (e : Election) (k : ℕ) (fits : k ≤ e.m) (c : ℕ) 
         let s = made-complete (step_of rule) (hit_weights rule e.m) e.m e.rows total ballots (hit_weights-fall rule e.m) counts (hit_weights-count rule e.m) (total-fits rule e.m k fits) from from-up more made leads in
         dead s.0 s.1 made asked s.2
 
-    -- the end follows, and who begins
+    -- the end follows
     pub last-live : (last : List ℕ) → end_by rule e from ≡ Some last → chosen (step_of rule) e.m last ≤ total → IsLive rule e k c set last → IsLive rule e k c set from
     last-live last is over = follower-live last (ends-contains (step_of rule) (hit_weights rule e.m) e.m e.rows total from last is over)
 
-    pub begun-live : (next : ℕ) → end_by rule e from ≡ None → has_member (beginners_by rule e (total - chosen (step_of rule) e.m from) from) next ≡ true → IsLive rule e k c set (change (step_of rule) from next) → IsLive rule e k c set from
-    begun-live next none begins = follower-live (change (step_of rule) from next) (changed-contains (step_of rule) (hit_weights rule e.m) e.m e.rows total from next none begins)
-
     pub last-dead : (last : List ℕ) → end_by rule e from ≡ Some last → chosen (step_of rule) e.m last ≤ total → IsDead rule e k c set last → IsDead rule e k c set from
     last-dead last is over dead = followers-dead (λ next inside. subst (IsDead rule e k c set) (last-only (step_of rule) (hit_weights rule e.m) e.m e.rows total from last next is over inside) dead)
-
-    pub begun-dead : end_by rule e from ≡ None → ((next : ℕ) → has_member (beginners_by rule e (total - chosen (step_of rule) e.m from) from) next ≡ true → IsDead rule e k c set (change (step_of rule) from next)) → IsDead rule e k c set from
-    begun-dead none dead = followers-dead (λ next inside.
-        let some = changed-from (step_of rule) (hit_weights rule e.m) e.m e.rows total from next none inside in
-        subst (IsDead rule e k c set) some.2 (dead some.0 some.1))
 
 -- ---- the set before all choices
 

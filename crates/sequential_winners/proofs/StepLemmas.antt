@@ -1,7 +1,7 @@
 -- What one choice does to a family, as the code finds it.
 use Rattle.std.proofs.lemmas.Grind.{common_steps}
-use Rattle.std.proofs.Common.{◌≡◌, ℕ, ◌+◌, ◌*◌, ◌-◌, ◌≤◌, ◌==◌, ◌&&◌, ◌∙◌, cond, length, not, Some, None, Bool, true, false, List, [], ◌∷◌, refl, sym, ap, arith, filter, map, subst, get_or}
-use Rattle.std.specs.Prelude.{fold, nat_le, nat_lt, slice_index_or, sum_by}
+use Rattle.std.proofs.Common.{◌≡◌, ℕ, ◌+◌, ◌*◌, ◌-◌, ◌<◌, ◌≤◌, ◌==◌, ◌&&◌, ◌||◌, ◌∙◌, cond, length, not, Some, None, Bool, true, false, List, [], ◌∷◌, refl, sym, ap, arith, filter, map, subst, get_or}
+use Rattle.std.specs.Prelude.{fold, nat_le, nat_lt, sum_by}
 use Rattle.std.proofs.Math.Bool.{and-true}
 use Rattle.std.specs.List.{list_all, range_with_len, AllByRecursion}
 use Rattle.std.proofs.lemmas.Bool.{and_parts, and_from, not-true, both_ways, cases_eq, eq-eqb, ne_eqb, le-leb, le-ltb, leb-true}
@@ -18,7 +18,8 @@ use Rattle.tie_walk.specs.declared.sequential.Step.TheVariants.{Grow, Shrink}
 use Rattle.tie_walk.proofs.StepLemmas.{filter-twice, has_member-range}
 use Rattle.tie_walk.proofs.WinnersLemmas.{greatest, bounds-greatest, same_filter}
 use Rattle.ballot_base.specs.Clones.{are_clones, clones_among}
-use Rattle.sequential_winners.specs.Steps.Levels.{is_first_open, is_settled, has_settled, ties, shares_no_voter, tied_worth, is_near, given, beginners, end, chosen, followed, followers}
+use Rattle.sequential_winners.specs.Steps.Near.{first_least}
+use Rattle.sequential_winners.specs.Steps.Levels.{is_first_open, is_settled, has_settled, ties, shares_no_voter, tied_worth, is_near, share_voter, given, beginners_at, beginners, end, chosen, followed, followers}
 use Rattle.sequential_winners.proofs.TiedClones.{choice-open, choice-best, choice-from}
 use Rattle.sequential_winners.proofs.Lists.{all-at, all-from, same_tests, open-is, open-from}
 use Rattle.ballot_base.specs.Clones.{AreClones}
@@ -157,20 +158,49 @@ end-found step weights m rows set best is = rw (settled-is step weights m rows s
 -- ---- who is followed, as the code finds it
 
 module _ (step : Step) (weights : List ℕ) (m : ℕ) (rows : List Row) (left : ℕ) (set tied : List ℕ) (best : ℕ) (tied-are : tied ≡ ties step weights m rows set) (best-is : best ≡ tied_worth step weights m rows set) where
-  pub beginners-are : (near : List ℕ) (first : ℕ) (b : Bool) → slice_index_or tied 0 0 ≡ first → near ≡ filter (is_near step weights rows set first) tied
-      → nat_lt (given step weights rows set (other_members tied near)) (left * best) ≡ b → cond b near tied ≡ beginners step weights m rows left set
-  beginners-are near first b first-is near-is is =
+  pub beginners-are : (near : List ℕ) (middle : ℕ) (b : Bool) → near ≡ filter (is_near step weights rows set middle) tied
+      → nat_lt (given step weights rows set (other_members tied near)) (left * best) ≡ b → cond b near tied ≡ beginners_at step weights m rows left set middle
+  beginners-are near middle b near-is is =
       ap (λ c. cond c near tied) (sym is)
       ∙ ap (λ n. cond (nat_lt (given step weights rows set (other_members tied near)) (left * n)) near tied) best-is
-      ∙ ap (λ l. cond (nat_lt (given step weights rows set (other_members tied l)) (left * tied_worth step weights m rows set)) l tied) (near-is ∙ ap (λ c. filter (is_near step weights rows set c) tied) (sym first-is))
-      ∙ ap (λ t. cond (nat_lt (given step weights rows set (other_members t (filter (is_near step weights rows set (slice_index_or t 0 0)) t))) (left * tied_worth step weights m rows set)) (filter (is_near step weights rows set (slice_index_or t 0 0)) t) t) tied-are
+      ∙ ap (λ l. cond (nat_lt (given step weights rows set (other_members tied l)) (left * tied_worth step weights m rows set)) l tied) near-is
+      ∙ ap (λ t. cond (nat_lt (given step weights rows set (other_members t (filter (is_near step weights rows set middle) t))) (left * tied_worth step weights m rows set)) (filter (is_near step weights rows set middle) t) t) tied-are
 
   -- where nobody brings anything, all are followed
-  pub beginners-flat : best ≡ 0 → tied ≡ beginners step weights m rows left set
-  beginners-flat none =
-      let near : List ℕ = filter (is_near step weights rows set (slice_index_or tied 0 0)) tied in
+  pub beginners-flat : (middle : ℕ) → best ≡ 0 → tied ≡ beginners_at step weights m rows left set middle
+  beginners-flat middle none =
+      let near : List ℕ = filter (is_near step weights rows set middle) tied in
       let nothing : left * best ≡ left * 0 = ap (λ n. left * n) none in
-      beginners-are near (slice_index_or tied 0 0) false refl refl (le-ltb (given step weights rows set (other_members tied near)) (left * best) (omega (arith, nothing)))
+      beginners-are near middle false refl (le-ltb (given step weights rows set (other_members tied near)) (left * best) (omega (arith, nothing)))
+
+  -- and where only one ties
+  pub beginners-one : length tied < 2 → tied ≡ beginners step weights m rows left set
+  beginners-one few = tied-are ∙ by-length (ties step weights m rows set) (subst (λ (t : List ℕ). length t < 2) tied-are few)
+    where
+      by : List ℕ → List ℕ
+      by t =
+          let near = filter (is_near step weights rows set (first_least (λ c. length (filter (is_near step weights rows set c) t)) t)) t in
+          cond (nat_lt (given step weights rows set (other_members t near)) (left * tied_worth step weights m rows set)) near t
+
+      either : (b : Bool) (xs : List ℕ) → xs ≡ cond b xs xs
+      either true xs = refl
+      either false xs = refl
+
+      same : (c n : ℕ) → cond (nat_lt n n) c c ≡ c
+      same c n = sym (either-number (nat_lt n n) c)
+        where
+          either-number : (b : Bool) (x : ℕ) → x ≡ cond b x x
+          either-number true x = refl
+          either-number false x = refl
+
+      by-length : (t : List ℕ) → length t < 2 → t ≡ by t
+      by-length [] few = either (nat_lt (given step weights rows set []) (left * tied_worth step weights m rows set)) []
+      by-length (x ∷ []) few =
+          let first = same x (length (filter (is_near step weights rows set x) (x ∷ []))) in
+          let near : filter (is_near step weights rows set x) (x ∷ []) ≡ x ∷ [] = ap (λ b. cond (b || share_voter step weights rows set x x) (x ∷ []) []) (eq-eqb x x refl) in
+          either (nat_lt (given step weights rows set (other_members (x ∷ []) (x ∷ []))) (left * tied_worth step weights m rows set)) (x ∷ [])
+          ∙ ap (λ l. cond (nat_lt (given step weights rows set (other_members (x ∷ []) l)) (left * tied_worth step weights m rows set)) l (x ∷ [])) (sym near ∙ ap (λ c. filter (is_near step weights rows set c) (x ∷ [])) (sym first))
+      by-length (x ∷ y ∷ t) few = absurd (omega (arith, few))
 
 -- ---- what follows a set, as the code finds it
 

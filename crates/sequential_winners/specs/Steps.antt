@@ -1,4 +1,5 @@
 pub mod Families
 pub mod Levels
+pub mod Near
 pub mod Questions
 pub mod Tables

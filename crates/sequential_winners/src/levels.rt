@@ -19,15 +19,15 @@
 //! good, and stands for all sets between the two. `proofs/LevelLemmas.antt` shows, by induction over levels, that the
 //! choices still to be made lead from the sets of a level to exactly the committees that some sequence of choices
 //! makes.
-ghost use Rattle.std.specs.Prelude.{◌≡◌, ℕ, ◌≤◌, ◌++◌, ◌∷◌, [], ◌&&◌, nat_lt, true, None, IfOk, OnOk};
+ghost use Rattle.std.specs.Prelude.{◌≡◌, ℕ, ◌<◌, ◌≤◌, ◌++◌, ◌∷◌, [], None, IfOk, OnOk};
 ghost use Rattle.ballot_base.specs.Clones.{AreClones};
-ghost use Rattle.ballot_base.specs.CandSet.{has_member};
 ghost use Rattle.ballot_base.specs.Limits.{most_candidates};
 ghost use Rattle.ballot_base.specs.Lists.{IsIncreasing};
 ghost use Rattle.tie_walk.specs.Steps.Choices.{best_worth, tied_by, HasSetsOf};
-ghost use Rattle.sequential_winners.specs.Steps.Levels.{ties_by, next_hit_by, given_by, near_by, beginners_by, AreApartBy, HasEnoughTiedBy, end_by, followers_by, AreReached};
+ghost use Rattle.sequential_winners.specs.Steps.Levels.{ties_by, next_hit_by, given_by, near_by, begun_by, beginners_by, AreNear, end_by, followers_by, AreReached};
 ghost use Rattle.sequential_winners.specs.Steps.Questions.{LeadsAhead};
 
+use crate::near::Nearness;
 use crate::question::forget;
 use ballot_base::{CandSet, Clones, PLACES};
 use std::alloc::{AllocError, Allocator};
@@ -106,15 +106,6 @@ impl<A: Allocator + Copy + Drop> Levels<'_, A> {
         rule.step().weight(weights, ballot.common(set).len())
     }
 
-    /// Whether a voter approves a candidate, and the voter's next hit adds something to the set, or the last one takes
-    /// something from it.
-    fn gives(&self, ballot: CandSet, set: CandSet, c: u8) -> bool
-        ensures { result ≡ (nat_lt 0 (next_hit_by self.now.choices.rule self.now.choices.profile.now set ballot)
-            && has_member ballot c) }
-    {
-        ballot.has(c) && self.next_hit(ballot, set) > 0
-    }
-
     /// What those voters give together who approve one of the candidates: what their next hits add to the set, or what
     /// the last ones take from it.
     fn given(&self, set: CandSet, candidates: CandSet) -> u128
@@ -129,72 +120,55 @@ impl<A: Allocator + Copy + Drop> Levels<'_, A> {
         given
     }
 
-    /// The first of the tied candidates, and those who share a voter with it whose next hit adds something.
-    fn near(&self, set: CandSet, ties: CandSet, first: u8) -> CandSet
-        requires ties { IsIncreasing 1 most_candidates ties }
-        requires first { has_member ties first ≡ true }
-        ensures { result ≡ near_by self.now.choices.rule self.now.choices.profile.now set first ties }
+    /// Who of the tied candidates are near each: those who share a voter with it whose next hit adds something.
+    pub(crate) fn nearness(&self, set: CandSet, ties: CandSet) -> Nearness
+        requires { IsIncreasing 1 most_candidates ties }
+        ensures { AreNear self.now.choices.rule self.now.choices.profile.now set ties result }
     {
-        let mut near = CandSet::empty().with(first);
+        let mut near = Nearness::none();
         for (ballot, _voters) in self.choices.profile.ballots() {
-            if self.gives(ballot, set, first) {
-                near = near.union(ballot.common(ties));
+            let group = ballot.common(ties);
+            if group.len() > 1 && self.next_hit(ballot, set) > 0 {
+                near.join(group);
             }
         }
         near
     }
 
-    /// Tied candidates, no two of whom share a voter whose next hit adds something: of `among` the first, the first of
-    /// those who are not near it, and so on, at most `most`.
-    pub(crate) fn apart(&self, set: CandSet, ties: CandSet, among: CandSet, most: u8) -> CandSet
-        requires ties { ties ≡ ties_by self.now.choices.rule self.now.choices.profile.now set }
-        requires valid { IsIncreasing 1 most_candidates ties }
-        requires among { (n : ℕ) → has_member among n ≡ true → has_member ties n ≡ true }
-        ensures { AreApartBy self.now.choices.rule self.now.choices.profile.now set result }
-    {
-        let mut apart = CandSet::empty();
-        let mut rest = among;
-        for _turn in 0..most {
-            let Some((next, _)) = rest.split_first() else {
-                break;
-            };
-            apart = apart.with(next);
-            rest = rest.minus(self.near(set, ties, next));
-        }
-        apart
-    }
-
-    /// Whether so many candidates tie that each of `left` choices is made among them: all choices but one leave some of
-    /// them in the tie.
-    pub(crate) fn has_enough_tied(&self, set: CandSet, ties: CandSet, left: u8) -> bool
-        requires ties { ties ≡ ties_by self.now.choices.rule self.now.choices.profile.now set }
-        requires valid { IsIncreasing 1 most_candidates ties }
-        ensures { result ≡ true → HasEnoughTiedBy self.now.choices.rule self.now.choices.profile.now left set }
-    {
-        let others = u16::from(left.saturating_sub(1));
-        for c in ties.members() {
-            let near = u16::from(self.near(set, ties, c).len());
-            if others * near >= u16::from(ties.len()) {
-                return false;
-            }
-        }
-        !ties.is_empty()
-    }
-
-    /// The candidates who are followed from a set, where `left` choices are still to be made. If the voters of those
-    /// far from the first tied candidate give less than `left` times the best worth, the first one or somebody near it
-    /// is chosen before the best worth changes. So only these are followed.
+    /// The candidates who are followed from a set, where `left` choices are still to be made.
     pub(crate) fn beginners(&self, set: CandSet, best: u128, ties: CandSet, left: u8) -> CandSet
         requires best { best ≡ best_worth self.now.choices.rule self.now.choices.profile.now set }
         requires ties { ties ≡ ties_by self.now.choices.rule self.now.choices.profile.now set }
         requires valid { IsIncreasing 1 most_candidates ties }
         ensures { result ≡ beginners_by self.now.choices.rule self.now.choices.profile.now left set }
     {
-        let first = match ties.split_first() {
-            Some((first, _)) if best > 0 => first,
-            _ => return ties,
-        };
-        let near = self.near(set, ties, first);
+        if best == 0 || ties.len() < 2 {
+            return ties;
+        }
+        let near = self.nearness(set, ties);
+        match near.centre(ties, ties) {
+            Some(centre) => self.begun(set, best, ties, left, near.of(centre)),
+            None => ties,
+        }
+    }
+
+    /// The same, given the candidates near the centre, which is any of those who tie. If the voters of the others give
+    /// less than `left` times the best worth, the centre or somebody near it is chosen before the best worth changes.
+    /// So only these are followed.
+    pub(crate) fn begun(
+        &self,
+        set: CandSet,
+        best: u128,
+        ties: CandSet,
+        left: u8,
+        near: CandSet,
+    ) -> CandSet
+        requires some { 0 < best }
+        requires best { best ≡ best_worth self.now.choices.rule self.now.choices.profile.now set }
+        requires ties { ties ≡ ties_by self.now.choices.rule self.now.choices.profile.now set }
+        ensures { (centre : ℕ) → near ≡ near_by self.now.choices.rule self.now.choices.profile.now set centre ties
+            → result ≡ begun_by self.now.choices.rule self.now.choices.profile.now left set centre }
+    {
         if self.given(set, ties.minus(near)) / best < u128::from(left) {
             near
         } else {
@@ -299,11 +273,16 @@ impl<A: Allocator + Copy + Drop> Levels<'_, A> {
         Ok(())
     }
 
-    /// Whether so many candidates tie at the start that each of `total` choices is made among them.
+    /// Whether so many candidates tie at the start that each of `total` choices is made among them: all choices but one
+    /// leave some of them in the tie.
     pub(crate) fn has_lasting_ties(&self, total: u8) -> bool {
         let start = self.choices.rule.step().start(self.choices.profile.m());
         let (_best, ties, end) = self.ties_and_end(start);
-        end.is_none() && total <= ties.len() && self.has_enough_tied(start, ties, total)
+        end.is_none()
+            && total <= ties.len()
+            && self
+                .nearness(start, ties)
+                .are_many(ties, total.saturating_sub(1))
     }
 }
 

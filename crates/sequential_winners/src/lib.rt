@@ -8,6 +8,7 @@
 mod families;
 pub mod laws;
 mod levels;
+mod near;
 mod question;
 mod winners;
 

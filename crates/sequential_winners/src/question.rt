@@ -99,8 +99,9 @@ impl<A: Allocator + Copy + Drop> Question<'_, '_, A> {
 
     /// The candidates of whom one is chosen next if the choices lead to a committee that is asked for; `None` if they
     /// are sure to lead to one. Two facts about the tied candidates save a search if more of them tie than choices are
-    /// left. Those who are apart are chosen in any order (`Levels::apart`). And many ties last
-    /// (`Levels::has_enough_tied`): then nobody else is chosen.
+    /// left. Those who are apart are chosen in any order (`Nearness::apart`). And many ties last (`Nearness::are_many`):
+    /// then nobody else is chosen. The centre is the tied candidate with the fewest near it of those after whose choice
+    /// a committee that is asked for can still be made: the others lead to nothing.
     // Not inlined: it would take stack at each set of a search.
     #[inline(never)]
     fn branches(&self, from: CandSet, best: u128, ties: CandSet) -> Option<CandSet>
@@ -118,14 +119,17 @@ impl<A: Allocator + Copy + Drop> Question<'_, '_, A> {
         let Choices { profile, rule, .. } = &self.levels.choices;
         let total = rule.choices(profile.m(), self.k);
         let left = total.saturating_sub(rule.choices(profile.m(), from.len()));
-        if best > 0 && left <= ties.len() {
-            let apart = self
-                .levels
-                .apart(from, ties, ties.common(self.allowed()), left);
+        if best == 0 || ties.len() < 2 {
+            return Some(ties);
+        }
+        let near = self.levels.nearness(from, ties);
+        let allowed = ties.common(self.allowed());
+        if left <= ties.len() {
+            let apart = near.apart(allowed, left);
             if self.has_between(from, self.after_all(from, apart)) {
                 return None;
             }
-            if self.levels.has_enough_tied(from, ties, left) {
+            if near.are_many(ties, left.saturating_sub(1)) {
                 if !self.has_between(from, self.after_all(from, ties)) {
                     return Some(CandSet::empty());
                 }
@@ -134,7 +138,10 @@ impl<A: Allocator + Copy + Drop> Question<'_, '_, A> {
                 }
             }
         }
-        Some(self.levels.beginners(from, best, ties, left))
+        let Some(centre) = near.centre(ties, allowed) else {
+            return Some(ties);
+        };
+        Some(self.levels.begun(from, best, ties, left, near.of(centre)))
     }
 
     /// One of the tied candidates, if no committee that is asked for is made without it by choices among them.

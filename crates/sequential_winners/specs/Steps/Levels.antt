@@ -14,6 +14,7 @@ use Rattle.tie_walk.specs.declared.sequential.Step.{Step}
 use Rattle.tie_walk.specs.declared.sequential.Step.TheVariants.{Grow, Shrink}
 use Rattle.ballot_base.specs.Clones.{clones_among}
 use Rattle.sequential_winners.specs.Clones.{clone_count, has_as_many, is_between}
+use Rattle.sequential_winners.specs.Steps.Near.{near_of, first_least}
 
 -- whether no candidate below c who is in the set of clones may be chosen
 abbrev pub is_first_open : Step → List ℕ → List ℕ → ℕ → Bool
@@ -94,15 +95,27 @@ given step weights rows set candidates =
     sum_by (λ (row : Row). row.1 * given_share step weights set candidates row) rows
 
 -- The candidates who are followed, where `left` choices are still to be made. Each choice of a tied candidate uses up
--- voters who give the best worth. If those who approve a candidate far from the first tied one give less than `left`
--- times as much, then the first or somebody near is chosen before the best worth changes, and may be chosen at once.
-abbrev pub beginners : Step → List ℕ → ℕ → List Row → ℕ → List ℕ → List ℕ
-beginners step weights m rows left set =
+-- voters who give the best worth. If those who approve a candidate far from some tied one, the centre, give less than
+-- `left` times as much, then the centre or somebody near is chosen before the best worth changes, and may be chosen at
+-- once.
+abbrev pub beginners_at : Step → List ℕ → ℕ → List Row → ℕ → List ℕ → ℕ → List ℕ
+beginners_at step weights m rows left set middle =
     let tied = ties step weights m rows set in
-    let near = filter (is_near step weights rows set (slice_index_or tied 0 0)) tied in
+    let near = filter (is_near step weights rows set middle) tied in
     if nat_lt (given step weights rows set (other_members tied near)) (left * tied_worth step weights m rows set)
     then near
     else tied
+
+-- the first of the tied candidates with the fewest others near them
+abbrev pub centre : Step → List ℕ → ℕ → List Row → List ℕ → ℕ
+centre step weights m rows set =
+    let tied = ties step weights m rows set in
+    first_least (λ c. length (filter (is_near step weights rows set c) tied)) tied
+
+-- those who are followed in the levels, by this centre
+abbrev pub beginners : Step → List ℕ → ℕ → List Row → ℕ → List ℕ → List ℕ
+beginners step weights m rows left set =
+    beginners_at step weights m rows left set (centre step weights m rows set)
 
 -- tied candidates, no two of whom share a voter whose next hit adds something
 pub record AreApart (step : Step) (weights : List ℕ) (m : ℕ) (rows : List Row) (set together : List ℕ) : Type 0 where
@@ -226,9 +239,17 @@ abbrev pub near_by : SeqRule → Election → List ℕ → ℕ → List ℕ → 
 near_by rule e set other candidates =
     filter (is_near (step_of rule) (hit_weights rule e.m) e.rows set other) candidates
 
+-- the table holds for each of the candidates those who are near it
+abbrev pub AreNear : SeqRule → Election → List ℕ → List ℕ → List (List ℕ) → Type 0
+AreNear rule e set candidates table =
+    (c : ℕ) → has_member candidates c ≡ true → near_of table c ≡ near_by rule e set c candidates
+
 -- `given` of an election
 abbrev pub given_by : SeqRule → Election → List ℕ → List ℕ → ℕ
 given_by rule e set candidates = given (step_of rule) (hit_weights rule e.m) e.rows set candidates
+
+abbrev pub begun_by : SeqRule → Election → ℕ → List ℕ → ℕ → List ℕ
+begun_by rule e left set middle = beginners_at (step_of rule) (hit_weights rule e.m) e.m e.rows left set middle
 
 abbrev pub beginners_by : SeqRule → Election → ℕ → List ℕ → List ℕ
 beginners_by rule e left set = beginners (step_of rule) (hit_weights rule e.m) e.m e.rows left set
