@@ -34,8 +34,12 @@ const MOST_SETS: usize = 1 << 20;
 /// all choices, no more are found: then each question takes few steps, and levels would take up to millions of sets.
 const FEW_SETS: usize = 1 << 12;
 
-/// All memory for the winners of a sequential rule, and the levels up to the first of more than `FEW_SETS` sets.
-/// Contracts see the election, the rule and `k`.
+/// The most sets of a level, times different ballots, before memory for more is taken. It is taken before the first
+/// write, so that the first lines do not wait for large levels. Any number works.
+const FEW_VISITS: usize = 1 << 20;
+
+/// All memory for the winners of a sequential rule, and the levels up to the first that has many sets. Contracts see
+/// the election, the rule and `k`.
 #[derive(Drop)]
 pub struct FamilyMemory<'a, A: Allocator + Copy = Global> {
     profile: &'a Profile<A>,
@@ -86,7 +90,13 @@ impl<'a, A: Allocator + Copy + Drop> FamilyMemory<'a, A> {
         };
         let total = rule.choices(profile.m(), k);
         let mut level = Level::first(alloc, rule.step().start(profile.m()))?;
-        levels.go_on(&mut level, total, FEW_SETS)?;
+        let ties_last = levels.has_lasting_ties(total);
+        let most = if ties_last {
+            FEW_SETS
+        } else {
+            FEW_SETS.min(FEW_VISITS / profile.rows().max(1))
+        };
+        levels.go_on(&mut level, total, most)?;
         let mut ends = Vec::new(alloc);
         if level.size == total {
             ends.reserve_exact(level.sets.len())?;
@@ -100,7 +110,7 @@ impl<'a, A: Allocator + Copy + Drop> FamilyMemory<'a, A> {
                 dead: None,
             });
         }
-        if levels.has_lasting_ties(total) {
+        if ties_last {
             return FamilyMemory::for_searches(alloc, profile, rule, k);
         }
         level.reserve(MOST_SETS)?;
