@@ -221,8 +221,8 @@ impl<A: Allocator + Copy + Drop> Levels<'_, A> {
         Ok(())
     }
 
-    /// Puts the level after a level, of those for `total` choices, in its place. Returns whether it did: the level of all
-    /// choices stays, and so does one that more than `most` sets follow.
+    /// Puts the level after a level, of those for `total` choices, in its place. Returns whether it did: the level of
+    /// all choices stays, and so does one that more than `most` sets follow.
     fn advance(&self, level: &mut Level<A>, total: u8, most: usize) -> Result<bool, AllocError>
         requires total { total ≤ self.now.choices.profile.now.m }
         requires level { AreReached self.now.choices.rule self.now.choices.profile.now total level.old.size
