@@ -100,8 +100,8 @@ impl<A: Allocator + Copy + Drop> Question<'_, '_, A> {
     /// The candidates of whom one is chosen next if the choices lead to a committee that is asked for; `None` if they
     /// are sure to lead to one. Two facts about the tied candidates save a search if more of them tie than choices are
     /// left. Those who are apart are chosen in any order (`Nearness::apart`). And many ties last
-    /// (`Nearness::are_many`): then nobody else is chosen. The centre is the tied candidate with the fewest near it of those after whose choice
-    /// a committee that is asked for can still be made: the others lead to nothing.
+    /// (`Nearness::are_many`): then nobody else is chosen. The centre is the tied candidate with the fewest near it of
+    /// those after whose choice a committee that is asked for can still be made: the others lead to nothing.
     // Not inlined: it would take stack at each set of a search.
     #[inline(never)]
     fn branches(&self, from: CandSet, best: u128, ties: CandSet) -> Option<CandSet>
