@@ -1,8 +1,8 @@
 //! Bounds on the committees that complete a set under a Thiele rule, which need no gains.
 //!
 //! `prices` bounds by a multiplier for each row, `pairs` sees which candidates share voters, and `triples` looks at
-//! three candidates at a time. All count what hits give in units: `majorant` has these sums, and the quadratic functions
-//! that `pairs` adds up.
+//! three candidates at a time. All count what hits give in units: `majorant` has these sums, and the quadratic
+//! functions that `pairs` adds up.
 #![tactic(auto)]
 
 pub mod laws;
