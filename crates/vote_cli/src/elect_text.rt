@@ -202,7 +202,7 @@ impl<'a, A: Allocator + Copy + Drop> Listing<'a, A> {
         requires { IsStart memory.election.m memory.k self.now.after }
         ensures { SendsAll W.contents (calls_of W.has_failed W.flushes) out.old out.new (is_ok result)
             (answers_text (committee_line self.now.names) self.now.limit (later_than self.now.after
-            (sequential_winners memory.rule memory.election memory.k))) }
+            (sequential_winners memory.entry.rule memory.entry.election memory.entry.k))) }
     {
         let families = Families::new(memory);
         let mut winners = FamilyWinners::new(&families, self.after);
