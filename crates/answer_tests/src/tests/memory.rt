@@ -5,11 +5,9 @@ use super::support::{assert_of, ballot_of};
 use ballot_base::{Profile, ProfileBuilder, ThieleRule};
 use minimax_search::MinimaxSearch;
 use refusing_heap::{Measured, Usage};
-use sequential_winners::{Families, FamilyMemory, FamilyWinners};
 use std::process::Abort;
 use thiele_search::{SearchMemory, ThieleSearch};
 use tie_search::SearchWinners;
-use tie_walk::SeqRule;
 
 /// The bytes that each different ballot takes.
 const BALLOT: usize = 24;
@@ -94,65 +92,6 @@ fn a_minimax_search_takes_its_memory_first(rt: HostRuntime) {
         let before = count_from_here(&heap);
         let mut winners = SearchWinners::new(search, SIZE, None);
         assert_of(&rt, winners.next().is_some(), "a winner", 0, 0);
-        assert_taken(&rt, &heap, before, 0);
-    }
-}
-
-/// The number of voters of an election whose candidates are pairs of voters.
-const PAIRED: u8 = 7;
-
-/// The number of their pairs.
-const PAIRS: u8 = 21;
-
-/// The size of a committee of pairs. The levels of this election have more sets than are found before memory is taken.
-const PAIRS_CHOSEN: u8 = 9;
-
-/// The maximum number of bytes that a sequential rule takes.
-const MOST_OF_FAMILIES: usize = 64_000_000;
-
-/// The pairs of voters that a voter belongs to, a bit for each.
-fn pairs_with(voter: u8) -> u64 {
-    let mut word: u64 = 0;
-    let mut pair: u64 = 1;
-    for one in 0..PAIRED {
-        for other in 0..one {
-            if one == voter || other == voter {
-                word |= pair;
-            }
-            pair = pair.wrapping_mul(2);
-        }
-    }
-    word
-}
-
-/// An election whose candidates are the pairs of voters, and each voter approves its own.
-fn pairs_of_voters<'h>(rt: &impl Abort, heap: &'h Measured) -> Profile<&'h Measured>
-    ensures { result.m ≡ 21 }
-{
-    let mut builder = ProfileBuilder::new(heap, PAIRS).expect(rt, "a builder");
-    for voter in 0..PAIRED {
-        builder
-            .add(ballot_of(PAIRS, pairs_with(voter)), 1)
-            .expect(rt, "a ballot");
-    }
-    match builder.finish() {
-        Ok(profile) => profile,
-        Err(_) => panic!(rt; "no voters"),
-    }
-}
-
-#[test]
-fn large_levels_take_their_memory_first(rt: HostRuntime) {
-    let heap = Measured::new(rt.alloc());
-    let profile = pairs_of_voters(&rt, &heap);
-    for rule in &SeqRule::ALL {
-        let before = count_from_here(&heap);
-        let memory = FamilyMemory::new(&heap, &profile, *rule, PAIRS_CHOSEN).expect(&rt, "memory");
-        assert_taken(&rt, &heap, before, MOST_OF_FAMILIES);
-        let before = count_from_here(&heap);
-        let families = Families::new(memory);
-        let found = FamilyWinners::new(&families, None).next();
-        assert_of(&rt, found.is_some(), "a winner", 0, 0);
         assert_taken(&rt, &heap, before, 0);
     }
 }
