@@ -5,19 +5,13 @@
 //! the number of seats left, and moves where they save work. Nothing is proved of these counts.
 ghost use Rattle.std.specs.Prelude.{⊤};
 
+use crate::means::{Mean, PARTS, achieved};
 use crate::multipliers::Moved;
 use crate::node::Node;
-use ballot_base::{CandSet, MOST_MEMBERS};
+use ballot_base::MOST_MEMBERS;
 use std::array;
 use std::cell::Cell;
 use std::marker::Model;
-
-/// What a move achieved is counted in parts of this number; a node that ended is all of them. Means are in such parts
-/// of one as well.
-const PARTS: u64 = 1024;
-
-/// The maximum that a move achieves if candidates only leave: seven tenths.
-const MOST_OF_LEAVING: u64 = PARTS * 7 / 10;
 
 /// The work before multipliers are first moved, in rounds over the rows. Shorter searches end sooner without.
 const BEGINNING: u64 = 384;
@@ -39,9 +33,6 @@ const LEFT_ALONE: u32 = 16;
 
 /// There is a level for each number of seats left.
 const LEVELS: usize = MOST_MEMBERS as usize + 1;
-
-/// About how many of the last numbers a mean is of, so that old ones are forgotten.
-const MEMORY: u64 = 50;
 
 /// What moves of multipliers achieve, and what they cost, by the number of seats left. With more than `MOST_MEMBERS`
 /// seats left nothing is moved. The unit of work is a visit to a set. Contracts see nothing of them.
@@ -198,38 +189,5 @@ impl Level {
             && (self.below.count == 0
                 || self.success.count < TRIALS_OF_MOVES
                 || self.success.value.saturating_mul(self.below.value) / PARTS >= self.cost.value)
-    }
-}
-
-/// A running mean.
-#[derive(Clone, Copy)]
-struct Mean {
-    // The count of its numbers, up to `MEMORY`.
-    count: u64,
-    value: u64,
-}
-
-impl Mean {
-    const NONE: Mean = Mean { count: 0, value: 0 };
-
-    fn with(self, number: u64) -> Mean {
-        let count = MEMORY.min(self.count.saturating_add(1));
-        let others = self.value.saturating_mul(count.saturating_sub(1));
-        Mean {
-            count,
-            value: others.saturating_add(number) / count,
-        }
-    }
-}
-
-/// What a move achieved, in parts, by the candidates that were free before and after it. `after` is `None` if the node
-/// ended.
-fn achieved(before: CandSet, after: Option<CandSet>) -> u64 {
-    match after {
-        Some(after) => {
-            let gone = before.len().saturating_sub(after.len());
-            MOST_OF_LEAVING * u64::from(gone) / u64::from(before.len().max(1))
-        }
-        None => PARTS,
     }
 }
