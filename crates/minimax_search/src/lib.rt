@@ -8,6 +8,7 @@
 
 mod good;
 pub mod laws;
+mod lists;
 pub mod minimax;
 mod needs;
 mod rows;

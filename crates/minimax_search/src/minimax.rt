@@ -7,6 +7,7 @@ ghost use Rattle.tie_walk.specs.Values.{closeness};
 ghost use Rattle.ballot_base.specs.Ballots.{Election, IsElection};
 
 use crate::good::near_committee;
+use crate::lists::Lists;
 use crate::rows::WeighedRows;
 use crate::walk::Walk;
 use crate::weights::Shares;
@@ -31,6 +32,7 @@ pub struct MinimaxSearch<'a, A: Allocator + Copy = Global> {
     pub(crate) moves: Moves,
     // The committee that was found last.
     found: Cell<CandSet>,
+    pub(crate) lists: Lists,
 }
 
 impl<'a, A: Allocator + Copy> Model for MinimaxSearch<'a, A> {
@@ -62,6 +64,7 @@ impl<'a, A: Allocator + Copy + Drop> MinimaxSearch<'a, A> {
             rows: WeighedRows::of(alloc, profile.rows())?,
             moves: Moves::new(ROUND),
             found: Cell::new(CandSet::empty()),
+            lists: Lists::new(),
         })
     }
 }
@@ -152,5 +155,13 @@ impl<'a, A: Allocator + Copy> Searchable for MinimaxSearch<'a, A> {
     // winner, even with at most 2^20 committees.
     fn tied(&self, _k: u8) -> Option<Tied> {
         None
+    }
+
+    fn completions(&self, node: &Node, least: u128) -> Option<Tied> {
+        self.rows.begin(node.left);
+        self.lists.begin(least);
+        let completions = descent::list_completions(self, *node, least, self.lists.most_sets());
+        self.lists.end();
+        completions
     }
 }

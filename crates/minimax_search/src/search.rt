@@ -14,7 +14,7 @@ ghost use Rattle.minimax_search.specs.Steps.Search.{Branches, IsNearPlan};
 
 use crate::minimax::MinimaxSearch;
 use crate::needs::still_needed;
-use crate::weights::{NeedSearch, Weighing};
+use crate::weights::{NeedSearch, Weighing, eligible};
 use ballot_base::CandSet;
 use row_multipliers::Node;
 use std::alloc::Allocator;
@@ -43,7 +43,12 @@ impl<A: Allocator + Copy> Narrowing for MinimaxSearch<'_, A> {
         MinimaxTally::new(self.profile).value(node.set)
     }
 
+    fn gives_up(&self) -> bool {
+        self.lists.is_over()
+    }
+
     fn plan(&self, node: &Node, least: u128) -> Option<Plan> {
+        self.lists.enter(least);
         let m = self.m();
         if least > u128::from(m) {
             return None;
@@ -60,7 +65,7 @@ impl<A: Allocator + Copy> Narrowing for MinimaxSearch<'_, A> {
         let here = Node { free, ..*node };
         let needs = search.constraint(&here);
         Some(Plan {
-            eligible: needs.narrowed(&here)?,
+            eligible: eligible(&needs, &here)?,
             choices,
             worths: needs.worths,
             due: needs.due.saturating_sub(needs.paid),
@@ -71,6 +76,9 @@ impl<A: Allocator + Copy> Narrowing for MinimaxSearch<'_, A> {
     fn narrowed(&self, plan: &Plan, node: &Node, least: u128) -> Option<CandSet> {
         if least > u128::from(self.m()) {
             return None;
+        }
+        if plan.due == 0 {
+            return Some(node.free);
         }
         plan.worths.members_for(node.free, node.left, plan.due)
     }

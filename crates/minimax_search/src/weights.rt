@@ -6,10 +6,11 @@
 //! pays, weights are moved instead, as multipliers are (`row_multipliers::multipliers`). With weights by the share, 64
 //! candidates and 20 seats did not end within 12 s if voters and candidates lie on a line. With moved ones they take
 //! 0.01 s.
-ghost use Rattle.std.specs.Prelude.{◌≡◌, ℕ, ◌^◌, ◌≤◌, slice_index, ◌-◌};
+ghost use Rattle.std.specs.Prelude.{◌≡◌, ℕ, ◌^◌, ◌≤◌, List, slice_index, ◌-◌};
 ghost use Rattle.ballot_base.specs.Limits.{most_candidates};
 ghost use Rattle.row_multipliers.specs.Completions.{IsNode};
 ghost use Rattle.row_multipliers.specs.Steps.Constraints.{IsConstraint};
+ghost use Rattle.row_multipliers.specs.Steps.Narrowed.{Narrows};
 ghost use Rattle.minimax_search.specs.Steps.Search.{NarrowsNear, share_parts};
 ghost use Rattle.tie_walk.specs.Values.{closeness};
 
@@ -71,6 +72,19 @@ impl Shares {
 fn is_tight(needed: u8, approved: CandSet, node: &Node) -> bool {
     let share = u64::from(needed).saturating_mul(u64::from(node.free.len()));
     share >= u64::from(approved.len()).saturating_mul(u64::from(node.left))
+}
+
+/// The free candidates of a node that can still join, by the needs. Returns `None` only if no completion of the node is
+/// near each ballot.
+pub(crate) fn eligible(needs: &Constraint, node: &Node) -> Option<CandSet>
+    ensures { (value : List ℕ → ℕ) (m least : ℕ) → m ≤ most_candidates → IsNode m node.now.set node.now.free
+        → IsConstraint value m node.now least needs.now → Narrows value m node.now least result }
+{
+    // Without weights nothing is due. To order the candidates by their worths took a tenth of the instructions.
+    if needs.due == 0 {
+        return Some(node.free);
+    }
+    needs.narrowed(node)
 }
 
 /// How ballots are weighed at a node.

@@ -53,6 +53,17 @@ completes-wider branch free committee among whole =
     ∙ or-more (has_member branch.set n) (has_member free n) (has_member branch.free n) (among n)
     (sym (has_member-either branch.set free n) ∙ all-at (has_member (either_members branch.set free)) committee n parts.1 here)))
 
+includes-through : (all some few : List ℕ) → includes all some ≡ true → includes some few ≡ true → includes all few ≡ true
+includes-through all some few outer inner = all-from (has_member all) few (λ n here. all-at (has_member all) some n outer (all-at (has_member some) few n inner here))
+
+-- what completes a branch within another completes the other
+pub completes-within : (branch inner : Branch) → includes inner.set branch.set ≡ true → includes (either_members branch.set branch.free) (either_members inner.set inner.free) ≡ true
+    → (committee : List ℕ) → completes inner committee ≡ true → completes branch committee ≡ true
+completes-within branch inner sets all committee whole =
+    let parts = and_parts (includes committee inner.set) (includes (either_members inner.set inner.free) committee) whole in
+    and_from (includes committee branch.set) (includes (either_members branch.set branch.free) committee) (includes-through committee inner.set branch.set parts.0 sets)
+    (includes-through (either_members branch.set branch.free) (either_members inner.set inner.free) committee all parts.1)
+
 -- no member is past the candidates
 pub completes-up : (m k : ℕ) (branch : Branch) (committee : List ℕ) (last : ℕ) → IsBranch m k branch → IsIncreasing 1 last committee → completes branch committee ≡ true → IsIncreasing 1 m committee
 completes-up m k branch committee last is up whole = narrower 1 committee up (λ n here. member-high 1 m either n either-up (all-at (has_member either) committee n inside here))

@@ -5,6 +5,7 @@ pub mod DescentLemmas
 pub mod EnteredLemmas
 mod Examples
 pub mod FoundLemmas
+pub mod ListLemmas
 pub mod ReachLemmas
 pub mod StackLemmas
 pub mod StartLemmas

@@ -2,6 +2,8 @@
 use Rattle.std.specs.Prelude.{◌≡◌, ℕ, ◌<◌, ◌≤◌, true, false, List, [], length, slice_index_or}
 use Rattle.ballot_base.specs.Lists.{IsIncreasing}
 use Rattle.tie_walk.specs.Winners.{best_value}
+use Rattle.row_multipliers.specs.Completions.{IsReaching}
+use Rattle.row_multipliers.specs.declared.node.Node.{Node}
 use Rattle.tie_search.specs.Alike.{Becomes}
 use Rattle.tie_search.specs.declared.found.Tied.{Tied}
 
@@ -39,4 +41,14 @@ pub record AreTied (value : List ℕ → ℕ) (class : ℕ → List ℕ) (m k : 
   pub full : tied.are_all ≡ false → tied.len ≡ most_tied
   pub more : tied.are_all ≡ false
       → (committee : List ℕ) × IsBest value m k committee × (IsAmong tied.committees tied.len committee → ⊥)
+  pub distinct : AreDistinct tied.committees tied.len
+
+-- Committees that complete a node and reach a value, none of them twice: all up to exchanges of clones.
+pub record AreReaching (value : List ℕ → ℕ) (class : ℕ → List ℕ) (m : ℕ) (node : Node) (least : ℕ) (tied : Tied)
+    : Type 0 where
+  pub few : tied.len ≤ most_tied
+  pub each : (committee : List ℕ) → IsAmong tied.committees tied.len committee
+      → IsReaching value m node.set node.free node.left least committee
+  pub all : (committee : List ℕ) → IsReaching value m node.set node.free node.left least committee
+      → (other : List ℕ) × IsAmong tied.committees tied.len other × Becomes m class other committee
   pub distinct : AreDistinct tied.committees tied.len

@@ -10,10 +10,11 @@
 ghost use Rattle.std.specs.Prelude.{◌≡◌, ◌+◌, ◌≤◌, ◌∷◌, [], None, MatchOption, ⊤, length, option_to_list};
 ghost use Rattle.ballot_base.specs.Limits.{most_candidates};
 ghost use Rattle.ballot_base.specs.Lists.{IsIncreasing};
-ghost use Rattle.tie_search.specs.Steps.Branches.{AreAskedIn, IsAskingIn, IsOnTheWayIn, IsStepFrom, IsStepIn};
+ghost use Rattle.tie_search.specs.Steps.Branches.{AreAskedIn, AreListedIn, IsAskingIn, IsOnTheWayIn, IsStepFrom, IsStepIn};
 ghost use Rattle.tie_search.specs.Steps.Branches.{IsOracle, first_branches};
 
 use crate::branch::Branch;
+use crate::branch_list::BranchList;
 use crate::oracle::Oracle;
 use crate::searchable::Searchable;
 use arrayvec::ArrayVec;
@@ -65,27 +66,40 @@ impl Asking {
     }
 
     /// The first of the winners still to come, or `None` if none is left.
-    pub(crate) fn next<S: Searchable>(&mut self, oracle: &Oracle<S>) -> Option<CandSet>
+    pub(crate) fn next<S: Searchable>(
+        &mut self,
+        oracle: &Oracle<S>,
+        list: &mut BranchList,
+    ) -> Option<CandSet>
         requires knows { IsOracle S.value_of S.class_of S.candidates oracle.now }
+        requires listed { AreListedIn S.value_of S.class_of S.candidates oracle.now list.old }
         requires asking { IsAskingIn S.value_of S.candidates oracle.now self.old }
+        ensures listed { AreListedIn S.value_of S.class_of S.candidates oracle.now list.new }
         ensures asking { IsAskingIn S.value_of S.candidates oracle.now self.new }
         ensures step { IsStepIn S.value_of S.candidates oracle.now self.old (option_to_list result) self.new }
         ensures end { result ≡ None → self.new.branches.items ≡ [] }
         ensures asked { AreAskedIn S.candidates oracle.now self.old (option_to_list result) self.new }
     {
         while let Some(branch) = self.branches.pop() {
-            if let Some(winner) = oracle.ask(&branch, self.found, &mut self.asked) {
+            if let Some(winner) = list.ask(oracle, &branch, self.found, &mut self.asked) {
                 self.found = winner;
-                return Some(self.first_of(oracle, branch));
+                return Some(self.first_of(oracle, list, branch));
             }
         }
         None
     }
 
     /// The first winner that completes a branch. The winner that was found last must complete it.
-    fn first_of<S: Searchable>(&mut self, oracle: &Oracle<S>, mut branch: Branch) -> CandSet
+    fn first_of<S: Searchable>(
+        &mut self,
+        oracle: &Oracle<S>,
+        list: &mut BranchList,
+        mut branch: Branch,
+    ) -> CandSet
         requires knows { IsOracle S.value_of S.class_of S.candidates oracle.now }
+        requires listed { AreListedIn S.value_of S.class_of S.candidates oracle.now list.old }
         requires way { IsOnTheWayIn S.value_of S.candidates oracle.now self.old branch }
+        ensures listed { AreListedIn S.value_of S.class_of S.candidates oracle.now list.new }
         ensures asking { IsAskingIn S.value_of S.candidates oracle.now self.new }
         ensures step { IsStepFrom S.value_of S.candidates oracle.now self.old branch (result ∷ []) self.new }
         ensures rises { self.old.asked ≤ self.new.asked }
@@ -101,7 +115,7 @@ impl Asking {
                 set: branch.set.with(next),
                 free: others,
             };
-            if let Some(winner) = oracle.ask(&with, self.found, &mut self.asked) {
+            if let Some(winner) = list.ask(oracle, &with, self.found, &mut self.asked) {
                 self.found = winner;
                 self.branches.push(branch);
                 // No other step counts sets.

@@ -1,7 +1,9 @@
 //! Branches: sets that committees may begin with, and the candidates that may still join them.
-ghost use Rattle.std.specs.Prelude.{◌≡◌, false};
+ghost use Rattle.std.specs.Prelude.{◌≡◌, ◌<◌, ◌≤◌, ℕ, List, [], false, true, MatchOption, slice_index_or};
+ghost use Rattle.tie_search.specs.Tied.{IsAmong, most_tied};
 ghost use Rattle.tie_search.specs.Steps.Branches.{IsUnsuited, completes};
 
+use crate::found::Tied;
 use ballot_base::{CandSet, Clones};
 
 /// A set of candidates, and later candidates that are free to join it. A committee completes the branch if it consists
@@ -28,6 +30,15 @@ impl Branch {
         committee.includes(self.set) && self.set.union(self.free).includes(committee)
     }
 
+    /// Whether each committee that completes another branch completes this one too. Only `true` is certain.
+    pub(crate) fn has(&self, other: &Branch) -> bool
+        ensures { result ≡ true → (committee : List ℕ) → completes other.now committee ≡ true
+            → completes self.now committee ≡ true }
+    {
+        let all = self.set.union(self.free);
+        other.set.includes(self.set) && all.includes(other.set.union(other.free))
+    }
+
     /// Whether the committee may become one that completes the branch if clones take the place of members. Only `false`
     /// is certain.
     pub(crate) fn suits(&self, clones: &Clones, committee: CandSet) -> bool
@@ -45,6 +56,22 @@ impl Branch {
             }
         }
         true
+    }
+
+    /// A committee of a list that may become one that completes the branch, if clones take the place of members.
+    pub(crate) fn suited(&self, clones: &Clones, tied: &Tied) -> Option<CandSet>
+        requires { tied.now.len ≤ most_tied }
+        ensures { MatchOption result ((i : ℕ) → i < tied.now.len
+            → IsUnsuited self.now clones.now (slice_index_or tied.now.committees i []))
+            (IsAmong tied.now.committees tied.now.len) }
+    {
+        for i in 0..tied.len {
+            let committee = tied.committees[i];
+            if self.suits(clones, committee) {
+                return Some(committee);
+            }
+        }
+        None
     }
 
     /// The first committee that completes the branch and comes from `committee` by exchanges of clones. Returns

@@ -13,6 +13,7 @@
 
 mod asking;
 mod branch;
+mod branch_list;
 pub mod descent;
 pub mod found;
 mod oracle;

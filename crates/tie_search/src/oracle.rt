@@ -98,14 +98,7 @@ impl<S: Searchable> Oracle<S> {
         requires all { self.now.tied.are_all ≡ true }
         ensures { IsGuessIn S.value_of S.candidates self.now branch.now result }
     {
-        let clones = self.search.clones();
-        for i in 0..self.tied.len {
-            let committee = self.tied.committees[i];
-            if branch.suits(clones, committee) {
-                return Some(committee);
-            }
-        }
-        None
+        branch.suited(self.search.clones(), &self.tied)
     }
 }
 

@@ -4,7 +4,7 @@ ghost use Rattle.ballot_base.specs.Limits.{most_candidates};
 ghost use Rattle.ballot_base.specs.Lists.{IsIncreasing};
 ghost use Rattle.row_multipliers.specs.Completions.{Finds, IsNode};
 ghost use Rattle.tie_search.specs.Alike.{AreAlike, AreClasses, HasClasses};
-ghost use Rattle.tie_search.specs.Tied.{AreTied};
+ghost use Rattle.tie_search.specs.Tied.{AreReaching, AreTied};
 
 use crate::found::Tied;
 use ballot_base::{CandSet, Clones};
@@ -48,4 +48,16 @@ pub trait Searchable: WithClones {
         requires fits { k ≤ Self.candidates self.now }
         ensures { MatchOption result ⊤
             (AreTied (Self.value_of self.now) (Self.class_of self.now) (Self.candidates self.now) k) };
+
+    /// Lists the committees that complete a node and whose value is at least `least`, each once. Every other one becomes
+    /// a listed one if clones take the place of members. Returns `None` if there are more than `MOST_TIED`, or to find
+    /// them would take too long.
+    fn completions(&self, node: &Node, least: u128) -> Option<Tied>
+        requires is_node { IsNode (Self.candidates self.now) node.now.set node.now.free }
+        requires value { node.now.value ≡ Self.value_of self.now node.now.set }
+        ensures { MatchOption result ⊤
+            (AreReaching (Self.value_of self.now) (Self.class_of self.now) (Self.candidates self.now) node.now least) }
+    {
+        None
+    }
 }

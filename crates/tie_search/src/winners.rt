@@ -10,6 +10,7 @@ ghost use Rattle.tie_search.specs.Asked.{Asked, IsNextAsked, beginnings, most_qu
 ghost use Rattle.tie_search.specs.Steps.Branches.{IsListing, left_by};
 
 use crate::asking::Asking;
+use crate::branch_list::BranchList;
 use crate::oracle::{Oracle, best_committees};
 use crate::searchable::Searchable;
 use ballot_base::CandSet;
@@ -22,6 +23,7 @@ use std::marker::Model;
 pub struct SearchWinners<S: Searchable> {
     oracle: Oracle<S>,
     asking: Asking,
+    list: BranchList,
     after: Option<CandSet>,
 }
 
@@ -37,7 +39,7 @@ impl<S: Searchable> Model for SearchWinners<S> {
       questions = w.asking.asked;
     } };
 
-    ghost invariant = { λ w. IsListing S.value_of S.class_of S.candidates w.oracle w.after w.asking };
+    ghost invariant = { λ w. IsListing S.value_of S.class_of S.candidates w.oracle w.after w.asking w.list };
 }
 
 impl<S: Searchable> SearchWinners<S> {
@@ -60,6 +62,7 @@ impl<S: Searchable> SearchWinners<S> {
         let found = tied.committees[0];
         SearchWinners {
             asking: Asking::begin(&after, m, found),
+            list: BranchList::nothing(),
             oracle: Oracle {
                 value: search.value(found),
                 search,
@@ -108,6 +111,6 @@ impl<S: Searchable + Drop> Iterator for SearchWinners<S> {
     ghost remaining = { item_count (λ (a : Asked S). a.left) };
 
     fn next(&mut self) -> Option<CandSet> {
-        self.asking.next(&self.oracle)
+        self.asking.next(&self.oracle, &mut self.list)
     }
 }

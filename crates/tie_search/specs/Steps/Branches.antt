@@ -7,11 +7,12 @@ use Rattle.ballot_base.specs.Lists.{IsIncreasing, increasing_lists, later_than}
 use Rattle.tie_walk.specs.Winners.{winners}
 use Rattle.tie_search.specs.Alike.{AreClasses, Becomes, HasClasses}
 use Rattle.tie_search.specs.Asked.{beginnings, begins_some, most_questions}
-use Rattle.tie_search.specs.Tied.{IsBest}
+use Rattle.tie_search.specs.Tied.{IsAmong, IsBest, most_tied}
 use Rattle.tie_search.specs.Steps.Searched.{IsSearched}
 use Rattle.tie_search.specs.declared.asking.Asking.{Asking}
 use Rattle.tie_search.specs.declared.oracle.Oracle.{Oracle}
 use Rattle.tie_search.specs.declared.branch.Branch.{Branch}
+use Rattle.tie_search.specs.declared.branch_list.BranchList.{BranchList}
 
 -- whether the committee is the set of the branch and some of its free candidates
 abbrev pub completes : Branch → List ℕ → Bool
@@ -79,6 +80,14 @@ IsBarren value m k branch = (committee : List ℕ) → IsWinnerOf value m k bran
 abbrev pub IsAnswer : (List ℕ → ℕ) → ℕ → ℕ → Branch → Option (List ℕ) → Type 0
 IsAnswer value m k branch answer = MatchOption answer (IsBarren value m k branch) (IsWinnerOf value m k branch)
 
+-- the committees with the highest value that complete the branch of a list: each becomes a listed one by exchanges of
+-- clones
+pub record AreListedWithin (value : List ℕ → ℕ) (class : ℕ → List ℕ) (m k : ℕ) (list : BranchList) : Type 0 where
+  pub few : list.tied.len ≤ most_tied
+  pub each : (committee : List ℕ) → IsAmong list.tied.committees list.tied.len committee → IsBest value m k committee
+  pub all : (committee : List ℕ) → IsWinnerOf value m k list.within committee
+      → (other : List ℕ) × IsAmong list.tied.committees list.tied.len other × Becomes m class other committee
+
 -- what is known of the committees of k with the highest value is true
 abbrev pub IsOracle : {S : Type 0} → (S → List ℕ → ℕ) → (S → ℕ → List ℕ) → (S → ℕ) → Oracle S → Type 0
 IsOracle value class candidates oracle =
@@ -133,6 +142,10 @@ IsGuessIn value candidates oracle branch guess =
 abbrev pub IsAnswerIn : {S : Type 0} → (S → List ℕ → ℕ) → (S → ℕ) → Oracle S → Branch → Option (List ℕ) → Type 0
 IsAnswerIn value candidates oracle = IsAnswer (value oracle.search) (candidates oracle.search) oracle.k
 
+abbrev pub AreListedIn : {S : Type 0} → (S → List ℕ → ℕ) → (S → ℕ → List ℕ) → (S → ℕ) → Oracle S → BranchList → Type 0
+AreListedIn value class candidates oracle =
+    AreListedWithin (value oracle.search) (class oracle.search) (candidates oracle.search) oracle.k
+
 abbrev pub IsAskingIn : {S : Type 0} → (S → List ℕ → ℕ) → (S → ℕ) → Oracle S → Asking → Type 0
 IsAskingIn value candidates oracle = IsAsking (value oracle.search) (candidates oracle.search) oracle.k
 
@@ -182,7 +195,8 @@ pub record IsBegun (value : List ℕ → ℕ) (m k : ℕ) (after : Option (List 
 
 -- what is true of winners that are listed
 pub record IsListing {S : Type 0} (value : S → List ℕ → ℕ) (class : S → ℕ → List ℕ) (candidates : S → ℕ)
-    (oracle : Oracle S) (after : Option (List ℕ)) (asking : Asking) : Type 0 where
+    (oracle : Oracle S) (after : Option (List ℕ)) (asking : Asking) (list : BranchList) : Type 0 where
   pub knows : IsOracle value class candidates oracle
   pub asking_is : IsAsking (value oracle.search) (candidates oracle.search) oracle.k asking
   pub counted : IsCounted (value oracle.search) (candidates oracle.search) oracle.k after asking
+  pub listed : AreListedIn value class candidates oracle list

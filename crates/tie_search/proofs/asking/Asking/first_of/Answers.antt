@@ -52,6 +52,7 @@ loop-parts-preserved-in-Some-ask g c =
     let wins : IsWinnerOf value m oracle.k (joined branch next rest) c.in-Some-ask.winner = rw c.with.ensures at c.in-Some-ask.ensures.answer in
     let step = joined-step value m oracle.k items branch was.entered way.branch_is short next rest c.in-Some.ensures c.in-Some-ask.winner wins in
     rw (c.with.ensures, c.push.ensures.items) record {
+      listed = c.ask.ensures.listed;
       way = record {
         stacked = stack-push value m oracle.k 0 items (passed branch rest) way.stacked (without-branch value m oracle.k branch way.branch_is short next rest c.in-Some.ensures) (omega (arith, way.size_is));
         branch_is = with-branch value m oracle.k branch way.branch_is short next rest c.in-Some.ensures;
@@ -91,6 +92,7 @@ loop-parts-preserved g c =
     let same = left-completes value m oracle.k branch way.branch_is short next rest c.in-Some.ensures table alike none in
     let step = left-step value m oracle.k was.branches.items branch was.entered other (λ i. branch.set) (same-winners value m oracle.k branch other same) in
     rw (c.minus-branch.ensures ∙ ap (other_members rest) c.class.ensures) record {
+      listed = c.ask.ensures.listed;
       way = record {
         stacked = way.stacked;
         branch_is = left-branch value m oracle.k branch way.branch_is short next rest c.in-Some.ensures table alike none;

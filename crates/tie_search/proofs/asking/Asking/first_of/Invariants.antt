@@ -1,5 +1,5 @@
 use Rattle.std.proofs.Common.{◌+◌, ◌≤◌, ◌∷◌, ◌++◌, [], length}
-use Rattle.tie_search.specs.Steps.Branches.{IsOnTheWay, IsStep}
+use Rattle.tie_search.specs.Steps.Branches.{AreListedWithin, IsOnTheWay, IsStep}
 use Rattle.tie_search.proofs.asking.Asking.first_of.Given as goal
 
 abbrev pub invariant-loop-parts : goal.invariant-loop-parts
@@ -7,6 +7,7 @@ invariant-loop-parts g l =
     let value = g.S.Tally.value_of l.oracle.search in
     let m = g.S.Tally.candidates l.oracle.search in
     record {
+      listed : AreListedWithin value (g.S.WithClones.class_of l.oracle.search) m l.oracle.k l.list;
       way : IsOnTheWay value m l.oracle.k l.self l.branch;
       step : IsStep value m l.oracle.k (l.fn.self.branches.items ++ l.fn.branch ∷ []) l.fn.self.entered [] (l.self.branches.items ++ l.branch ∷ []) l.self.entered;
       rises : l.fn.self.asked ≤ l.self.asked;

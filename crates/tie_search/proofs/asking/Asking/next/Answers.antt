@@ -23,6 +23,7 @@ popped g c =
 
 pub loop-branch-init : goal.loop-branch-init
 loop-branch-init g c = record {
+  listed = c.requires.listed;
   asking = c.requires.asking;
   step = record { left = refl; rises = omega arith; counted = refl };
   rises = omega arith;
@@ -90,6 +91,7 @@ loop-branch-preserved g c =
     let step : IsStep value m oracle.k now.branches.items now.entered [] rest now.entered =
     rw c.in-Some.ensures.items (barren-step value m oracle.k rest c.in-Some.branch now.entered c.in_default-ask.ensures.answer) in
     record {
+      listed = c.ask.ensures.listed;
       asking = record {
         found_is = is.found_is;
         stacked = parts.0;

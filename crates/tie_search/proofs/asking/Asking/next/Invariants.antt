@@ -1,5 +1,5 @@
 use Rattle.std.proofs.Common.{◌+◌, ◌≤◌, [], length}
-use Rattle.tie_search.specs.Steps.Branches.{IsAsking, IsStep}
+use Rattle.tie_search.specs.Steps.Branches.{AreListedWithin, IsAsking, IsStep}
 use Rattle.tie_search.proofs.asking.Asking.next.Given as goal
 
 abbrev pub invariant-loop-branch : goal.invariant-loop-branch
@@ -8,6 +8,7 @@ invariant-loop-branch g l =
     let m = g.S.Tally.candidates l.oracle.search in
     let was = l.fn.self in
     record {
+      listed : AreListedWithin value (g.S.WithClones.class_of l.oracle.search) m l.oracle.k l.list;
       asking : IsAsking value m l.oracle.k l.self;
       step : IsStep value m l.oracle.k was.branches.items was.entered [] l.self.branches.items l.self.entered;
       rises : was.asked ≤ l.self.asked;

@@ -3,6 +3,7 @@ use Rattle.std.proofs.Common.{◌≡◌, rules, [], arith, get_or, length, ◌�
 use Rattle.tie_search.specs.Tied.{IsBest}
 use Rattle.tie_search.specs.Steps.Branches.{IsBegun, first_branches}
 use Rattle.tie_search.specs.Steps.Searched.{IsSearched}
+use Rattle.tie_search.proofs.ListLemmas.{nothing-within}
 use Rattle.tie_search.proofs.StartLemmas.{begun-from}
 use Rattle.tie_search.proofs.winners.SearchWinners.new.Given.{Over}
 use Rattle.tie_search.proofs.winners.SearchWinners.new.Goals as goal
@@ -33,7 +34,7 @@ invariant_of-result g c =
       best_is = c.value.ensures ∙ (first-is g c).best;
       listed = c.best_committees-tied.ensures;
     } in
-    record { knows = knows; asking_is = is.asking_is; counted = is.counted }
+    record { knows = knows; asking_is = is.asking_is; counted = is.counted; listed = nothing-within (g.S.Tally.value_of c.args.search) (g.S.WithClones.class_of c.args.search) (g.S.Tally.candidates c.args.search) c.args.k c.nothing.result c.requires.some c.nothing.ensures.set c.nothing.ensures.free c.nothing.ensures.none }
 
 pub returns-clause-left : goal.returns-clause-left
 returns-clause-left g c = (is-begun g c).left

@@ -2,9 +2,10 @@ use Rattle.std.proofs.Common.{◌≡◌, ℕ, ◌+◌, ◌*◌, ◌≤◌, List,
 use Rattle.std.proofs.Math.Nat.{mul-add}
 use Rattle.std.specs.Iterator.{YieldsFirst}
 use Rattle.tie_search.specs.Asked.{Asked, IsNextAsked}
-use Rattle.tie_search.specs.Steps.Branches.{AreAskedIn, IsAskingIn, IsListing, IsStepIn, left_by, to_enter}
+use Rattle.tie_search.specs.Steps.Branches.{AreAskedIn, AreListedIn, IsAskingIn, IsListing, IsStepIn, left_by, to_enter}
 use Rattle.tie_search.specs.declared.asking.Asking.{Asking}
 use Rattle.tie_search.specs.declared.oracle.Oracle.{Oracle}
+use Rattle.tie_search.specs.declared.branch_list.BranchList.{BranchList}
 use Rattle.tie_search.specs.declared.branch.Branch.{Branch}
 use Rattle.tie_search.proofs.winners.SearchWinnersIterator.next.Goals as goal
 
@@ -40,9 +41,10 @@ module _ {S : Type 0} (value : S → List ℕ → ℕ) (class : S → ℕ → Li
   }
 
   -- winners are listed on after a step
-  still-listing : (oracle : Oracle S) (after : Option (List ℕ)) (was now : Asking) (found : List (List ℕ)) → IsListing value class candidates oracle after was → IsStepIn value candidates oracle was found now
-      → IsAskingIn value candidates oracle now → AreAskedIn candidates oracle was found now → IsListing value class candidates oracle after now
-  still-listing oracle after was now found is step asks asked = record {
+  still-listing : (oracle : Oracle S) (after : Option (List ℕ)) (was now : Asking) (before list : BranchList) (found : List (List ℕ)) → IsListing value class candidates oracle after was before → IsStepIn value candidates oracle was found now
+      → IsAskingIn value candidates oracle now → AreListedIn value class candidates oracle list → AreAskedIn candidates oracle was found now → IsListing value class candidates oracle after now list
+  still-listing oracle after was now before list found is step asks listed asked = record {
+    listed = listed;
     knows = is.knows;
     asking_is = asks;
     counted = record {
@@ -52,9 +54,9 @@ module _ {S : Type 0} (value : S → List ℕ → ℕ) (class : S → ℕ → Li
     };
   }
 
-  next-asked : (oracle : Oracle S) (after : Option (List ℕ)) (was now : Asking) (winner : Option (List ℕ)) → IsListing value class candidates oracle after now → IsStepIn value candidates oracle was (option_to_list winner) now
+  next-asked : (oracle : Oracle S) (after : Option (List ℕ)) (was now : Asking) (list : BranchList) (winner : Option (List ℕ)) → IsListing value class candidates oracle after now list → IsStepIn value candidates oracle was (option_to_list winner) now
       → (winner ≡ None → now.branches.items ≡ []) → AreAskedIn candidates oracle was (option_to_list winner) now → IsNextAsked S value candidates (view oracle after was) winner (view oracle after now)
-  next-asked oracle after was now winner is step end asked = record {
+  next-asked oracle after was now list winner is step end asked = record {
     first = first-of (view oracle after was) winner (view oracle after now) step.left (λ none. (nothing-left (value oracle.search) (candidates oracle.search) oracle.k now.branches.items (end none)).0);
     same_search = refl;
     same_k = refl;
@@ -68,14 +70,14 @@ module _ {S : Type 0} (value : S → List ℕ → ℕ) (class : S → ℕ → Li
 pub invariant_of-self : goal.invariant_of-self
 invariant_of-self g c =
     let was = c.self.inside in
-    still-listing g.S.Tally.value_of g.S.WithClones.class_of g.S.Tally.candidates was.oracle was.after was.asking c.next.new.self (option_to_list c.next.result) c.self.invariant c.next.ensures.step
-    c.next.ensures.asking c.next.ensures.asked
+    still-listing g.S.Tally.value_of g.S.WithClones.class_of g.S.Tally.candidates was.oracle was.after was.asking c.next.new.self was.list c.next.new.list (option_to_list c.next.result) c.self.invariant c.next.ensures.step
+    c.next.ensures.asking c.next.ensures.listed c.next.ensures.asked
 
 pub returns-clause-steps : goal.returns-clause-steps
 returns-clause-steps g c =
     let V = g.S.Tally.value_of in
     let M = g.S.Tally.candidates in
     let was = c.self.inside in
-    let listing = still-listing V g.S.WithClones.class_of M was.oracle was.after was.asking c.next.new.self (option_to_list c.next.result) c.self.invariant c.next.ensures.step c.next.ensures.asking c.next.ensures.asked in
+    let listing = still-listing V g.S.WithClones.class_of M was.oracle was.after was.asking c.next.new.self was.list c.next.new.list (option_to_list c.next.result) c.self.invariant c.next.ensures.step c.next.ensures.asking c.next.ensures.listed c.next.ensures.asked in
     subst (λ from. IsNextAsked g.row.S.Denot V M from c.next.result (view V g.S.WithClones.class_of M was.oracle was.after c.next.new.self)) c.self.view_is
-    (next-asked V g.S.WithClones.class_of M was.oracle was.after was.asking c.next.new.self c.next.result listing c.next.ensures.step c.next.ensures.end c.next.ensures.asked)
+    (next-asked V g.S.WithClones.class_of M was.oracle was.after was.asking c.next.new.self c.next.new.list c.next.result listing c.next.ensures.step c.next.ensures.end c.next.ensures.asked)

@@ -1,0 +1,49 @@
+-- Lists of the winners that complete a branch.
+use Rattle.std.proofs.Common.{◌≡◌, ℕ, ◌+◌, ◌<◌, ◌≤◌, List, [], Option, None, Some, ap, arith, length, subst, sym}
+use Rattle.std.specs.Prelude.{MatchOption, slice_index_or}
+use Rattle.ballot_base.specs.Lists.{IsIncreasing}
+use Rattle.tie_walk.specs.Winners.{best_value}
+use Rattle.row_multipliers.specs.declared.node.Node.{Node}
+use Rattle.tie_search.specs.Alike.{AreClasses, Becomes, HasClasses}
+use Rattle.tie_search.specs.Tied.{AreReaching, IsAmong, IsBest}
+use Rattle.tie_search.specs.Steps.Branches.{AreListedWithin, IsBarren, IsBranch, IsUnsuited, IsWinnerOf}
+use Rattle.tie_search.specs.declared.branch.Branch.{Branch}
+use Rattle.tie_search.specs.declared.branch_list.BranchList.{BranchList}
+use Rattle.tie_search.specs.declared.found.Tied.{Tied}
+use Rattle.tie_search.proofs.BranchLemmas.{completion-from, few-barren, winner-from}
+
+-- no committee completes a branch of no candidates
+pub nothing-within : (value : List ℕ → ℕ) (class : ℕ → List ℕ) (m k : ℕ) (list : BranchList) → 1 ≤ k → list.within.set ≡ [] → list.within.free ≡ [] → list.tied.len ≡ 0
+    → AreListedWithin value class m k list
+nothing-within value class m k list some set free none = record {
+  few = omega (arith, none);
+  each = λ committee listed. absurd (omega (arith, listed.1, none));
+  all = λ committee wins. absurd (few-barren value m k list.within empty (omega (arith, some, ap length set, ap length free)) committee wins);
+}
+  where
+    empty : IsBranch m k list.within
+    empty = record { last = 0; within = omega arith; set_upto = rw set tt; free_after = rw free tt; size = omega (arith, ap length set) }
+
+-- the completions of its node that have the highest value are the winners that complete the branch
+pub all-within : (value : List ℕ → ℕ) (class : ℕ → List ℕ) (m k : ℕ) (branch : Branch) (v left : ℕ) (tied : Tied) (most_left : ℕ) → IsBranch m k branch → length branch.set + left ≡ k
+    → AreReaching value class m (record { set = branch.set; value = v; free = branch.free; left = left }) (best_value value m k) tied
+    → AreListedWithin value class m k (record { within = branch; tied = tied; most_left = most_left })
+all-within value class m k branch v left tied most_left is size all = record {
+  few = all.few;
+  each = λ committee listed. let reaching = all.each committee listed in (winner-from value m k branch is left committee size reaching.completes reaching.reaches).best;
+  all = λ committee wins. all.all committee (record { completes = completion-from value m k branch is left committee size wins; reaches = omega (arith, wins.best.best) });
+}
+
+-- A committee with the highest value that completes the branch becomes a listed one. So if none of these may become one
+-- that completes it, there is none.
+pub guess-among : (value : List ℕ → ℕ) (class : ℕ → List ℕ) (m k : ℕ) (branch : Branch) (classes : List (List ℕ)) (tied : Tied) → IsBranch m k branch → HasClasses m class classes
+    → ((c : ℕ) → 1 ≤ c → c ≤ m → IsIncreasing 1 m (class c)) → AreClasses m class → ((committee : List ℕ) → IsAmong tied.committees tied.len committee → IsBest value m k committee)
+    → ((committee : List ℕ) → IsWinnerOf value m k branch committee → (other : List ℕ) × IsAmong tied.committees tied.len other × Becomes m class other committee)
+    → (answer : Option (List ℕ)) → MatchOption answer ((i : ℕ) → i < tied.len → IsUnsuited branch classes (slice_index_or tied.committees i [])) (IsAmong tied.committees tied.len)
+    → MatchOption answer (IsBarren value m k branch) (IsBest value m k)
+guess-among value class m k branch classes tied is table rise agree each all None unsuited = λ committee wins.
+    let like = all committee wins in
+    let becomes = subst (λ l. Becomes m class l committee) (sym like.1.2) like.2 in
+    let up = subst (IsIncreasing 1 m) (sym like.1.2) (each like.0 like.1).candidates in
+    unsuited like.1.0 like.1.1 m k class committee is table rise agree up becomes wins.whole
+guess-among value class m k branch classes tied is table rise agree each all (Some committee) listed = each committee listed

@@ -1,0 +1,123 @@
+//! A list of the winners that complete a branch.
+//!
+//! A list answers all questions below its branch, which otherwise take a search each. To make one takes about the work
+//! of some questions. So the branches that are listed become larger as long as their lists are found, and smaller if not.
+ghost use Rattle.std.specs.Prelude.{◌≡◌, ◌+◌, ◌≤◌, []};
+ghost use Rattle.tie_search.specs.Steps.Branches.{AreListedIn, IsAnswerIn, IsBestIn, IsBranchIn, IsGuessIn, IsOracle};
+
+use crate::branch::Branch;
+use crate::found::{MOST_TIED, Tied};
+use crate::oracle::Oracle;
+use crate::searchable::Searchable;
+use ballot_base::CandSet;
+use row_multipliers::Node;
+
+/// A branch with this many seats left may always be listed. Any number works.
+const FEW_SEATS: u8 = 4;
+
+/// The winners that complete a branch, up to exchanges of clones.
+#[derive(Drop)]
+pub(crate) struct BranchList {
+    pub(crate) within: Branch,
+    pub(crate) tied: Tied,
+    // A branch with more seats left is not listed.
+    most_left: u8,
+}
+
+impl BranchList {
+    /// Nothing is listed yet: no committee completes the branch.
+    pub(crate) fn nothing() -> BranchList
+        ensures set { result.within.set ≡ [] }
+        ensures free { result.within.free ≡ [] }
+        ensures none { result.tied.len ≡ 0 }
+    {
+        BranchList {
+            within: Branch {
+                set: CandSet::empty(),
+                free: CandSet::empty(),
+            },
+            tied: Tied {
+                committees: [CandSet::empty(); MOST_TIED],
+                len: 0,
+                are_all: true,
+            },
+            most_left: FEW_SEATS,
+        }
+    }
+
+    /// Like `Oracle::ask`, but the list answers if it can. The branch may be listed first.
+    pub(crate) fn ask<S: Searchable>(
+        &mut self,
+        oracle: &Oracle<S>,
+        branch: &Branch,
+        found: CandSet,
+        asked: &mut u128,
+    ) -> Option<CandSet>
+        requires knows { IsOracle S.value_of S.class_of S.candidates oracle.now }
+        requires branch { IsBranchIn S.candidates oracle.now branch.now }
+        requires found { IsBestIn S.value_of S.candidates oracle.now found }
+        requires listed { AreListedIn S.value_of S.class_of S.candidates oracle.now self.old }
+        ensures listed { AreListedIn S.value_of S.class_of S.candidates oracle.now self.new }
+        ensures answer { IsAnswerIn S.value_of S.candidates oracle.now branch.now result }
+        ensures rises { asked.old ≤ asked.new }
+        ensures asked { asked.new ≤ asked.old + 1 }
+    {
+        if self.is_due(oracle, branch) {
+            self.fill(oracle, branch);
+        }
+        let like = self.like(oracle, branch, found)?;
+        oracle.ask(branch, like, asked)
+    }
+
+    /// Whether the branch is to be listed. Any answer works.
+    fn is_due<S: Searchable>(&self, oracle: &Oracle<S>, branch: &Branch) -> bool {
+        let left = oracle.k.saturating_sub(branch.set.len());
+        let is_small = 1 < left && left <= self.most_left && left < branch.free.len();
+        is_small && !oracle.tied.are_all && !self.within.has(branch)
+    }
+
+    /// Lists the winners that complete the branch, if the search does. Otherwise the list stays.
+    fn fill<S: Searchable>(&mut self, oracle: &Oracle<S>, branch: &Branch)
+        requires knows { IsOracle S.value_of S.class_of S.candidates oracle.now }
+        requires branch { IsBranchIn S.candidates oracle.now branch.now }
+        requires listed { AreListedIn S.value_of S.class_of S.candidates oracle.now self.old }
+        ensures listed { AreListedIn S.value_of S.class_of S.candidates oracle.now self.new }
+    {
+        let node = Node {
+            set: branch.set,
+            value: oracle.search.value(branch.set),
+            free: branch.free,
+            left: oracle.k - branch.set.len(),
+        };
+        match oracle.search.completions(&node, oracle.value) {
+            Some(tied) => {
+                let most_left = self.most_left.saturating_add(1).min(oracle.k);
+                *self = BranchList {
+                    within: *branch,
+                    tied,
+                    most_left,
+                };
+            }
+            None => self.most_left = self.most_left.saturating_sub(1).max(FEW_SEATS),
+        }
+    }
+
+    /// A committee with the highest value that may complete the branch: a listed one if the branch is within the
+    /// list's, and otherwise `found`. Returns `None` only if no committee with the highest value completes the branch.
+    fn like<S: Searchable>(
+        &self,
+        oracle: &Oracle<S>,
+        branch: &Branch,
+        found: CandSet,
+    ) -> Option<CandSet>
+        requires branch { IsBranchIn S.candidates oracle.now branch.now }
+        requires found { IsBestIn S.value_of S.candidates oracle.now found }
+        requires listed { AreListedIn S.value_of S.class_of S.candidates oracle.now self.now }
+        ensures { IsGuessIn S.value_of S.candidates oracle.now branch.now result }
+    {
+        if branch.is_completed_by(found) || !self.within.has(branch) {
+            return Some(found);
+        }
+        branch.suited(oracle.search.clones(), &self.tied)
+    }
+}
