@@ -159,9 +159,9 @@ impl<'a, A: Allocator + Copy> Searchable for MinimaxSearch<'a, A> {
 
     fn completions(&self, node: &Node, least: u128) -> Option<Tied> {
         self.rows.begin(node.left);
-        self.lists.begin(least);
-        let completions = descent::list_completions(self, *node, least, self.lists.most_sets());
-        self.lists.end();
+        let sets = self.lists.begin(least);
+        let completions = descent::list_completions(self, *node, least, sets);
+        self.lists.end(completions.is_none());
         completions
     }
 }

@@ -3,7 +3,6 @@ use Rattle.std.proofs.Common.{◌≡◌, ℕ, ◌+◌, ◌<◌, ◌≤◌, List,
 use Rattle.std.specs.Prelude.{MatchOption, slice_index_or}
 use Rattle.ballot_base.specs.Lists.{IsIncreasing}
 use Rattle.tie_walk.specs.Winners.{best_value}
-use Rattle.row_multipliers.specs.declared.node.Node.{Node}
 use Rattle.tie_search.specs.Alike.{AreClasses, Becomes, HasClasses}
 use Rattle.tie_search.specs.Tied.{AreReaching, IsAmong, IsBest}
 use Rattle.tie_search.specs.Steps.Branches.{AreListedWithin, IsBarren, IsBranch, IsUnsuited, IsWinnerOf}
@@ -25,14 +24,18 @@ nothing-within value class m k list some set free none = record {
     empty = record { last = 0; within = omega arith; set_upto = rw set tt; free_after = rw free tt; size = omega (arith, ap length set) }
 
 -- the completions of its node that have the highest value are the winners that complete the branch
-pub all-within : (value : List ℕ → ℕ) (class : ℕ → List ℕ) (m k : ℕ) (branch : Branch) (v left : ℕ) (tied : Tied) (most_left : ℕ) → IsBranch m k branch → length branch.set + left ≡ k
-    → AreReaching value class m (record { set = branch.set; value = v; free = branch.free; left = left }) (best_value value m k) tied
-    → AreListedWithin value class m k (record { within = branch; tied = tied; most_left = most_left })
-all-within value class m k branch v left tied most_left is size all = record {
+pub all-within : (value : List ℕ → ℕ) (class : ℕ → List ℕ) (m k : ℕ) (list : BranchList) (v left : ℕ) → IsBranch m k list.within → length list.within.set + left ≡ k
+    → AreReaching value class m (record { set = list.within.set; value = v; free = list.within.free; left = left }) (best_value value m k) list.tied → AreListedWithin value class m k list
+all-within value class m k list v left is size all = record {
   few = all.few;
-  each = λ committee listed. let reaching = all.each committee listed in (winner-from value m k branch is left committee size reaching.completes reaching.reaches).best;
-  all = λ committee wins. all.all committee (record { completes = completion-from value m k branch is left committee size wins; reaches = omega (arith, wins.best.best) });
+  each = λ committee listed. let reaching = all.each committee listed in (winner-from value m k list.within is left committee size reaching.completes reaching.reaches).best;
+  all = λ committee wins. all.all committee (record { completes = completion-from value m k list.within is left committee size wins; reaches = omega (arith, wins.best.best) });
 }
+
+-- a list stays right if only its counts change
+pub same-within : (value : List ℕ → ℕ) (class : ℕ → List ℕ) (m k : ℕ) (was now : BranchList) → now.within ≡ was.within → now.tied ≡ was.tied → AreListedWithin value class m k was
+    → AreListedWithin value class m k now
+same-within value class m k was now within tied is = record { few = rw tied is.few; each = rw tied is.each; all = rw (within, tied) is.all }
 
 -- A committee with the highest value that completes the branch becomes a listed one. So if none of these may become one
 -- that completes it, there is none.

@@ -15,6 +15,10 @@ use row_multipliers::Node;
 /// A branch with this many seats left may always be listed. Any number works.
 const FEW_SEATS: u8 = 4;
 
+/// The maximum number of lists in a row until larger branches are listed. When it was 1, lists were given up as often
+/// as found, and 1,000 winners of 30 among 64 candidates took a third longer. Any number works.
+const MOST_DUE: u8 = 16;
+
 /// The winners that complete a branch, up to exchanges of clones.
 #[derive(Drop)]
 pub(crate) struct BranchList {
@@ -22,6 +26,9 @@ pub(crate) struct BranchList {
     pub(crate) tied: Tied,
     // A branch with more seats left is not listed.
     most_left: u8,
+    // The number of lists to be found in a row until larger branches are listed, and of those that were found.
+    due: u8,
+    found: u8,
 }
 
 impl BranchList {
@@ -42,6 +49,8 @@ impl BranchList {
                 are_all: true,
             },
             most_left: FEW_SEATS,
+            due: 1,
+            found: 0,
         }
     }
 
@@ -91,15 +100,34 @@ impl BranchList {
         };
         match oracle.search.completions(&node, oracle.value) {
             Some(tied) => {
-                let most_left = self.most_left.saturating_add(1).min(oracle.k);
-                *self = BranchList {
-                    within: *branch,
-                    tied,
-                    most_left,
-                };
+                self.within = *branch;
+                self.tied = tied;
+                self.note_found(oracle.k);
             }
-            None => self.most_left = self.most_left.saturating_sub(1).max(FEW_SEATS),
+            None => self.note_given_up(),
         }
+    }
+
+    /// Lets larger branches be listed, up to `k` seats, if enough lists were found in a row.
+    fn note_found(&mut self, k: u8)
+        ensures within { self.new.within ≡ self.old.within }
+        ensures tied { self.new.tied ≡ self.old.tied }
+    {
+        self.found = self.found.saturating_add(1);
+        if self.found >= self.due {
+            self.most_left = self.most_left.saturating_add(1).min(k);
+            self.found = 0;
+        }
+    }
+
+    /// Lets only smaller branches be listed, for longer than before.
+    fn note_given_up(&mut self)
+        ensures within { self.new.within ≡ self.old.within }
+        ensures tied { self.new.tied ≡ self.old.tied }
+    {
+        self.most_left = self.most_left.saturating_sub(1).max(FEW_SEATS);
+        self.due = self.due.saturating_mul(2).min(MOST_DUE);
+        self.found = 0;
     }
 
     /// A committee with the highest value that may complete the branch: a listed one if the branch is within the

@@ -1,6 +1,7 @@
 use Rattle.std.proofs.Common.{arith, ◌-◌}
+use Rattle.tie_search.specs.declared.branch_list.BranchList.{BranchList}
 use Rattle.tie_search.proofs.BranchLemmas.{branch-node}
-use Rattle.tie_search.proofs.ListLemmas.{all-within}
+use Rattle.tie_search.proofs.ListLemmas.{all-within, same-within}
 use Rattle.tie_search.proofs.branch_list.BranchList.fill.Goals as goal
 
 pub value-requires : goal.value-requires
@@ -12,8 +13,19 @@ completions-requires-clause-is_node g c = branch-node (g.S.Tally.candidates c.ar
 pub returns-in-Some : goal.returns-in-Some
 returns-in-Some g c =
     let oracle = c.args.oracle.now in
-    let branch = c.args.branch.now in
+    let value = g.S.Tally.value_of oracle.search in
+    let class = g.S.WithClones.class_of oracle.search in
+    let m = g.S.Tally.candidates oracle.search in
+    let made : BranchList = record { within = c.args.branch.now; tied = c.in-Some.tied; most_left = 0; due = 0; found = 0 } in
     record {
-      listed = all-within (g.S.Tally.value_of oracle.search) (g.S.WithClones.class_of oracle.search) (g.S.Tally.candidates oracle.search) oracle.k branch c.value.result (oracle.k - c.len.result) c.in-Some.tied
-          c.min-most_left.result c.requires.branch (omega (arith, c.len.ensures.count, c.requires.branch.size)) (rw c.requires.knows.best_is at c.in-Some.ensures);
+      listed = same-within value class m oracle.k made c.note_found.new.self c.note_found.ensures.within c.note_found.ensures.tied
+          (all-within value class m oracle.k made c.value.result (oracle.k - c.len.result) c.requires.branch (omega (arith, c.len.ensures.count, c.requires.branch.size)) (rw c.requires.knows.best_is at c.in-Some.ensures));
+    }
+
+pub returns-in-None : goal.returns-in-None
+returns-in-None g c =
+    let oracle = c.args.oracle.now in
+    record {
+      listed = same-within (g.S.Tally.value_of oracle.search) (g.S.WithClones.class_of oracle.search) (g.S.Tally.candidates oracle.search) oracle.k c.args.self.now c.note_given_up.new.self
+          c.note_given_up.ensures.within c.note_given_up.ensures.tied c.requires.listed;
     }
