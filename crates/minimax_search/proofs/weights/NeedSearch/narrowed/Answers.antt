@@ -1,4 +1,4 @@
-use Rattle.std.proofs.Common.{◌≡◌, ◌-◌, None, Some}
+use Rattle.std.proofs.Common.{◌-◌, None, Some}
 use Rattle.tie_walk.specs.Values.{closeness}
 use Rattle.row_multipliers.specs.Steps.Narrowed.{IsNarrowed}
 use Rattle.row_multipliers.proofs.NarrowedLemmas.{narrowed-round}
