@@ -3,7 +3,8 @@
 //! `MinimaxSearch` finds a committee that is near each ballot, if there is one. `needs` computes the hits that a ballot
 //! needs for that. `search` narrows the sets of `tie_search::descent`, by `weights` of ballots that are moved if that
 //! pays; `rows` has these weights, and the rows that matter in front. `good` finds a committee to begin with. If a
-//! search lasts, `walk` looks for one that ends it. `tie_search::SearchWinners` asks for one winner after another.
+//! search lasts, `walk` looks for one that ends it. `lists` limits the work on lists of winners.
+//! `tie_search::SearchWinners` asks for one winner after another.
 #![tactic(auto)]
 
 mod good;

@@ -10,8 +10,8 @@
 ghost use Rattle.std.specs.Prelude.{◌≡◌, ◌+◌, ◌≤◌, ◌∷◌, [], None, MatchOption, ⊤, length, option_to_list};
 ghost use Rattle.ballot_base.specs.Limits.{most_candidates};
 ghost use Rattle.ballot_base.specs.Lists.{IsIncreasing};
-ghost use Rattle.tie_search.specs.Steps.Branches.{AreAskedIn, AreListedIn, IsAskingIn, IsOnTheWayIn, IsStepFrom, IsStepIn};
-ghost use Rattle.tie_search.specs.Steps.Branches.{IsOracle, first_branches};
+ghost use Rattle.tie_search.specs.Steps.Branches.{AreAskedIn, IsAskingIn, IsOnTheWayIn, IsStepFrom, IsStepIn};
+ghost use Rattle.tie_search.specs.Steps.Branches.{AreListedIn, IsOracle, first_branches};
 
 use crate::branch::Branch;
 use crate::branch_list::BranchList;

@@ -1,7 +1,7 @@
 //! A list of the winners that complete a branch.
 //!
-//! A list answers all questions below its branch, which otherwise take a search each. To make one takes about the work
-//! of some questions. So the branches that are listed become larger as long as their lists are found, and smaller if not.
+//! A list answers all questions below its branch; otherwise most of them take a search each. Making a list takes about
+//! the work of some questions. So larger branches are listed as long as lists are found, and smaller ones if not.
 ghost use Rattle.std.specs.Prelude.{◌≡◌, ◌+◌, ◌≤◌, []};
 ghost use Rattle.tie_search.specs.Steps.Branches.{AreListedIn, IsAnswerIn, IsBestIn, IsBranchIn, IsGuessIn, IsOracle};
 

@@ -5,7 +5,8 @@
 //! `minimax_search` for minimax approval voting.
 //!
 //! `SearchWinners` lists the winners. It asks a search for each of them, so it goes only where a winner is. A walk over
-//! plain bounds enters a prefix in vain if its bound reaches the highest value and no committee below it does.
+//! plain bounds enters a prefix in vain if its bound reaches the highest value and no committee below it does. A search
+//! may also list all winners that complete a branch (module `branch_list`), which answers all questions below it.
 //!
 //! `descent` is the search that both make, from set to set. It tries candidates by their worth. `found` is what it has
 //! found so far.

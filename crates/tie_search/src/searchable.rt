@@ -49,9 +49,9 @@ pub trait Searchable: WithClones {
         ensures { MatchOption result ⊤
             (AreTied (Self.value_of self.now) (Self.class_of self.now) (Self.candidates self.now) k) };
 
-    /// Lists the committees that complete a node and whose value is at least `least`, each once. Every other one becomes
-    /// a listed one if clones take the place of members. Returns `None` if there are more than `MOST_TIED`, or to find
-    /// them would take too long.
+    /// Lists the committees that complete a node and are worth at least `least`, each once. Every other one becomes a
+    /// listed one if clones take the place of members. Returns `None` if there are more than `MOST_TIED`, or they are
+    /// not looked for, as it would take too long.
     fn completions(&self, node: &Node, least: u128) -> Option<Tied>
         requires is_node { IsNode (Self.candidates self.now) node.now.set node.now.free }
         requires value { node.now.value ≡ Self.value_of self.now node.now.set }
