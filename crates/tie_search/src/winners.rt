@@ -92,7 +92,8 @@ impl<S: Searchable> SearchWinners<S> {
     }
 
     /// The number of questions that were asked so far for the winners: the calls of `Searchable::find`, except those
-    /// that found the highest value. There are at most m + k for each winner and k more, for m candidates.
+    /// that found the highest value. There are at most m + k for each winner and k more, for m candidates. Calls of
+    /// `Searchable::completions` do not count: there is at most one before each set is asked about.
     pub fn questions(&self) -> u128
         ensures count { result ≡ self.now.questions }
         ensures most { result ≤ most_questions (S.candidates self.now.search) self.now.k (later_than self.now.after
