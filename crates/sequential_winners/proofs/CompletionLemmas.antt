@@ -84,7 +84,7 @@ module _ (rows : List Row) (family : List ℕ) where
     pub least : (other : List ℕ) → IsBelow rows family other → IsBelow rows set other → IsBelow rows whole other
     pub enough : (y k : ℕ) → k ≤ clone_count rows family y → k ≤ clone_count rows set y + count_by (are_clones rows y) (range_with_len (c + 1) n) → k ≤ clone_count rows whole y
 
-  completed-is : (n c : ℕ) (set : List ℕ) → IsIncreasing 1 c set → IsCompleted c n set (fold (completed_by rows family) set (range_with_len (c + 1) n))
+  pub completed-is : (n c : ℕ) (set : List ℕ) → IsIncreasing 1 c set → IsCompleted c n set (fold (completed_by rows family) set (range_with_len (c + 1) n))
   completed-is zero c set up = record {
     taken = [];
     candidates = tt;

@@ -7,7 +7,7 @@ use Rattle.tie_walk.specs.Sequences.{hit_weights}
 use Rattle.tie_walk.specs.declared.sequential.SeqRule.TheVariants.{SeqPav, SeqCc}
 use Rattle.tie_walk.specs.declared.sequential.Step.TheVariants.{Grow, Shrink}
 use Rattle.ballot_base.specs.Clones.{are_clones, clones_among}
-use Rattle.sequential_winners.specs.Clones.{clone_count, has_as_many, is_between}
+use Rattle.sequential_winners.specs.Clones.{clone_count, has_as_many, is_between, without_clones}
 use Rattle.sequential_winners.specs.Families.{sequential_of, is_winner, some_winner}
 use Rattle.sequential_winners.specs.Steps.Families.{may_be_in}
 use Rattle.sequential_winners.specs.Steps.Near.{near_of, first_least}
@@ -25,6 +25,10 @@ clones = (refl, refl, refl)
 clones_of_four : clones_among 5 few.rows 4 ≡ 4 ∷ 5 ∷ []
 unfolding few
 clones_of_four = refl
+
+alone_of_five : without_clones 5 few.rows ≡ 3 ∷ []
+unfolding few
+alone_of_five = refl
 
 counts : (clone_count few.rows (1 ∷ 4 ∷ []) 2 ≡ 1) × (clone_count few.rows (1 ∷ 4 ∷ []) 3 ≡ 0)
 unfolding few

@@ -1,3 +1,4 @@
+pub mod AloneLemmas
 pub mod ApartLemmas
 pub mod BranchLemmas
 pub mod CloneLemmas

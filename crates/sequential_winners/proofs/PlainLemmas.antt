@@ -31,7 +31,7 @@ use Rattle.sequential_winners.proofs.PairLemmas.{pairs-first, pairs-pass}
 use Rattle.sequential_winners.proofs.WinnerLemmas.{many-from, below-from, any-at}
 
 -- the two members of a list of one are the same
-only-one : (xs : List ℕ) (c d : ℕ) → length xs ≡ 1 → has_member xs c ≡ true → has_member xs d ≡ true → c ≡ d
+pub only-one : (xs : List ℕ) (c d : ℕ) → length xs ≡ 1 → has_member xs c ≡ true → has_member xs d ≡ true → c ≡ d
 only-one [] c d one inside inside' = absurd (omega (arith, one))
 only-one (x ∷ []) c d one inside inside' = sym (same x c inside) ∙ same x d inside'
   where

@@ -164,6 +164,8 @@ pub struct Families<'a, A: Allocator + Copy = Global> {
     rule: SeqRule,
     pub(crate) k: u8,
     clones: Clones,
+    /// The candidates without clones.
+    alone: CandSet,
     /// `None` if they would take too much memory. Then a search answers each question.
     stored: Option<Stored<A>>,
     /// The sets that led to nothing in the last search, `None` if families are stored.
@@ -180,7 +182,8 @@ struct Stored<A: Allocator + Copy> {
 }
 
 impl<'a, A: Allocator + Copy> Model for Families<'a, A> {
-    ghost use Rattle.std.specs.Prelude.{⊤, MatchOption};
+    ghost use Rattle.std.specs.Prelude.{◌≡◌, ⊤, MatchOption};
+    ghost use Rattle.sequential_winners.specs.Clones.{without_clones};
     ghost use Rattle.sequential_winners.specs.Families.{Sequential, sequential_of};
     ghost use Rattle.sequential_winners.specs.Steps.Families.{KeepsElection};
     ghost use Rattle.sequential_winners.specs.Steps.Levels.{AreFamilies};
@@ -190,7 +193,8 @@ impl<'a, A: Allocator + Copy> Model for Families<'a, A> {
     ghost view = { λ f. sequential_of f.profile.now f.rule f.k };
 
     ghost invariant = { λ f. KeepsElection f.profile.now f.rule f.k f.clones
-        × MatchOption f.stored ⊤ (λ s. AreFamilies f.rule f.profile.now f.k s.leasts.items s.mosts.items) };
+        × MatchOption f.stored ⊤ (λ s. AreFamilies f.rule f.profile.now f.k s.leasts.items s.mosts.items)
+        × (f.alone ≡ without_clones f.profile.now.m f.profile.now.rows) };
 }
 
 impl<'a, A: Allocator + Copy + Drop> Families<'a, A> {
@@ -211,6 +215,7 @@ impl<'a, A: Allocator + Copy + Drop> Families<'a, A> {
             choices: Choices::new(profile, rule),
             clones: &clones,
         };
+        let alone = levels.alone();
         let stored = match level {
             Some(level) => Stored::of(&levels, k, level, ends).unwrap_or(None),
             None => None,
@@ -220,6 +225,7 @@ impl<'a, A: Allocator + Copy + Drop> Families<'a, A> {
             rule,
             k,
             clones,
+            alone,
             stored,
             dead: Cell::new(dead),
             last: Cell::new(CandSet::empty()),
@@ -348,7 +354,8 @@ impl<'a, A: Allocator + Copy> Families<'a, A> {
 
     /// Whether a family has a committee that consists of `set` and of candidates after `c`. Two conditions must hold.
     /// The candidates that `set` needs to have as many of each class as the least set have to fit in. The candidates
-    /// for which the most set has room have to fill the committee.
+    /// for which the most set has room have to fill the committee. Most families fail at once, by a candidate without
+    /// clones: `set` has it and the most set does not, or the least set has it and `set` has passed over it.
     // Not inlined: it would take stack at each set of a search.
     #[inline(never)]
     pub(crate) fn may_be_in(&self, family: (CandSet, CandSet), c: u8, set: CandSet) -> bool
@@ -360,6 +367,11 @@ impl<'a, A: Allocator + Copy> Families<'a, A> {
         ensures { result ≡ may_be_in self.now.election.m self.now.election.rows c set (self.now.k - length set) family }
     {
         let (least, most) = family;
+        if !most.includes(set.common(self.alone))
+            || !set.includes(least.common(self.alone).upto(c))
+        {
+            return false;
+        }
         let all = self.completed(c, set, least);
         all.len() <= self.k
             && self.has_as_many(all, least)
@@ -368,7 +380,7 @@ impl<'a, A: Allocator + Copy> Families<'a, A> {
     }
 
     /// The set and, for each class of clones of which it has fewer members than the other set, as many of the class's
-    /// candidates after `c` as it lacks.
+    /// candidates after `c` as it lacks. Those without clones join at once.
     fn completed(&self, c: u8, set: CandSet, other: CandSet) -> CandSet
         requires within { c ≤ self.now.election.m }
         requires set { IsIncreasing 1 c set }
@@ -376,9 +388,9 @@ impl<'a, A: Allocator + Copy> Families<'a, A> {
         ensures candidates { IsIncreasing 1 self.now.election.m result }
         ensures made { result ≡ completed c self.now.election.m self.now.election.rows set other }
     {
-        let m = self.m();
-        let mut all = set;
-        for x in c + 1..m + 1 {
+        let after = CandSet::after(c, self.m());
+        let mut all = set.union(other.common(after).common(self.alone));
+        for x in after.minus(self.alone).members() {
             if self.count(all, x) < self.count(other, x) {
                 all = all.with(x);
             }
@@ -392,7 +404,10 @@ impl<'a, A: Allocator + Copy> Families<'a, A> {
         requires other { IsIncreasing 1 self.now.election.m other }
         ensures { result ≡ has_as_many self.now.election.m self.now.election.rows set other }
     {
-        for c in 1..self.m() + 1 {
+        if !set.includes(other.common(self.alone)) {
+            return false;
+        }
+        for c in CandSet::all(self.m()).minus(self.alone).members() {
             if self.count(set, c) < self.count(other, c) {
                 return false;
             }

@@ -24,6 +24,7 @@ ghost use Rattle.ballot_base.specs.Clones.{AreClones};
 ghost use Rattle.ballot_base.specs.Limits.{most_candidates};
 ghost use Rattle.ballot_base.specs.Lists.{IsIncreasing};
 ghost use Rattle.tie_walk.specs.Steps.Choices.{best_worth, tied_by, HasSetsOf};
+ghost use Rattle.sequential_winners.specs.Clones.{without_clones};
 ghost use Rattle.sequential_winners.specs.Steps.Levels.{ties_by, next_hit_by, given_by, near_by, begun_by, beginners_by, AreNear, end_by, followers_by, AreReached};
 ghost use Rattle.sequential_winners.specs.Steps.Questions.{LeadsAhead};
 
@@ -54,6 +55,19 @@ pub(crate) struct Levels<'a, A: Allocator + Copy> {
 }
 
 impl<A: Allocator + Copy + Drop> Levels<'_, A> {
+    /// The candidates without clones.
+    pub(crate) fn alone(&self) -> CandSet
+        ensures { result ≡ without_clones self.now.choices.profile.now.m self.now.choices.profile.now.rows }
+    {
+        let mut alone = CandSet::empty();
+        for c in 1..self.choices.profile.m() + 1 {
+            if self.clones.class(c).len() == 1 {
+                alone = alone.with(c);
+            }
+        }
+        alone
+    }
+
     /// The tied candidates, but of clones only the first: all of them who may be chosen tie.
     fn firsts(&self, set: CandSet, tied: CandSet) -> CandSet
         requires { tied ≡ tied_by self.now.choices.rule self.now.choices.profile.now set }
