@@ -19,7 +19,7 @@ ghost use Rattle.sequential_winners.specs.Steps.Tables.{completed};
 
 use crate::levels::{Level, Levels};
 use crate::question::{MOST_DEAD, Question, forget};
-use ballot_base::{CandSet, Clones, Profile};
+use ballot_base::{CandSet, Profile};
 use std::alloc::{AllocError, Allocator, Global};
 use std::cell::Cell;
 use std::collections::HashSet;
@@ -42,10 +42,8 @@ const FEW_VISITS: usize = 1 << 20;
 /// the election, the rule and `k`.
 #[derive(Drop)]
 pub struct FamilyMemory<'a, A: Allocator + Copy = Global> {
-    profile: &'a Profile<A>,
-    rule: SeqRule,
+    levels: Levels<'a, A>,
     k: u8,
-    clones: Clones,
     // The last level, with room for those to come, or `None` if a search answers each question.
     level: Option<Level<A>>,
     // Room for the other set of each family.
@@ -63,11 +61,11 @@ impl<'a, A: Allocator + Copy> Model for FamilyMemory<'a, A> {
 
     ghost Value = { Sequential };
 
-    ghost view = { λ f. sequential_of f.profile.now f.rule f.k };
+    ghost view = { λ f. sequential_of f.levels.choices.profile.now f.levels.choices.rule f.k };
 
-    ghost invariant = { λ f. KeepsElection f.profile.now f.rule f.k f.clones
-        × MatchOption f.level ⊤ (λ l. AreReached f.rule f.profile.now (choices_of f.rule f.profile.now.m f.k)
-        l.size l.sets.items) };
+    ghost invariant = { λ f. KeepsElection f.levels.choices.profile.now f.k
+        × MatchOption f.level ⊤ (λ l. AreReached f.levels.choices.rule f.levels.choices.profile.now
+        (choices_of f.levels.choices.rule f.levels.choices.profile.now.m f.k) l.size l.sets.items) };
 }
 
 impl<'a, A: Allocator + Copy + Drop> FamilyMemory<'a, A> {
@@ -83,11 +81,7 @@ impl<'a, A: Allocator + Copy + Drop> FamilyMemory<'a, A> {
         requires fits { k ≤ profile.now.m }
         ensures { IfOk result (λ memory. memory ≡ sequential_of profile.now rule k) }
     {
-        let clones = Clones::of(profile);
-        let levels = Levels {
-            choices: Choices::new(profile, rule),
-            clones: &clones,
-        };
+        let levels = Levels::new(profile, rule);
         let total = rule.choices(profile.m(), k);
         let mut level = Level::first(alloc, rule.step().start(profile.m()))?;
         let ties_last = levels.has_lasting_ties(total);
@@ -101,10 +95,8 @@ impl<'a, A: Allocator + Copy + Drop> FamilyMemory<'a, A> {
         if level.size == total {
             ends.reserve_exact(level.sets.len())?;
             return Ok(FamilyMemory {
-                profile,
-                rule,
+                levels,
                 k,
-                clones,
                 level: Some(level),
                 ends,
                 dead: None,
@@ -117,10 +109,8 @@ impl<'a, A: Allocator + Copy + Drop> FamilyMemory<'a, A> {
         ends.reserve_exact(MOST_SETS)?;
         let dead = HashSet::with_capacity(alloc, MOST_DEAD)?;
         Ok(FamilyMemory {
-            profile,
-            rule,
+            levels,
             k,
-            clones,
             level: Some(level),
             ends,
             dead: Some(dead),
@@ -138,14 +128,11 @@ impl<'a, A: Allocator + Copy + Drop> FamilyMemory<'a, A> {
         requires fits { k ≤ profile.now.m }
         ensures { IfOk result (λ memory. memory ≡ sequential_of profile.now rule k) }
     {
-        let clones = Clones::of(profile);
         let dead = HashSet::with_capacity(alloc, MOST_DEAD)?;
         profile.m();
         Ok(FamilyMemory {
-            profile,
-            rule,
+            levels: Levels::new(profile, rule),
             k,
-            clones,
             level: None,
             ends: Vec::new(alloc),
             dead: Some(dead),
@@ -160,10 +147,8 @@ impl<'a, A: Allocator + Copy + Drop> FamilyMemory<'a, A> {
 /// election, the rule and `k`.
 #[derive(Drop)]
 pub struct Families<'a, A: Allocator + Copy = Global> {
-    profile: &'a Profile<A>,
-    rule: SeqRule,
+    levels: Levels<'a, A>,
     pub(crate) k: u8,
-    clones: Clones,
     /// The candidates without clones.
     alone: CandSet,
     /// `None` if they would take too much memory. Then a search answers each question.
@@ -190,11 +175,12 @@ impl<'a, A: Allocator + Copy> Model for Families<'a, A> {
 
     ghost Value = { Sequential };
 
-    ghost view = { λ f. sequential_of f.profile.now f.rule f.k };
+    ghost view = { λ f. sequential_of f.levels.choices.profile.now f.levels.choices.rule f.k };
 
-    ghost invariant = { λ f. KeepsElection f.profile.now f.rule f.k f.clones
-        × MatchOption f.stored ⊤ (λ s. AreFamilies f.rule f.profile.now f.k s.leasts.items s.mosts.items)
-        × (f.alone ≡ without_clones f.profile.now.m f.profile.now.rows) };
+    ghost invariant = { λ f. KeepsElection f.levels.choices.profile.now f.k
+        × MatchOption f.stored ⊤ (λ s. AreFamilies f.levels.choices.rule f.levels.choices.profile.now f.k
+        s.leasts.items s.mosts.items)
+        × (f.alone ≡ without_clones f.levels.choices.profile.now.m f.levels.choices.profile.now.rows) };
 }
 
 impl<'a, A: Allocator + Copy + Drop> Families<'a, A> {
@@ -203,28 +189,20 @@ impl<'a, A: Allocator + Copy + Drop> Families<'a, A> {
         ensures { result ≡ memory.entry }
     {
         let FamilyMemory {
-            profile,
-            rule,
+            levels,
             k,
-            clones,
             level,
             ends,
             dead,
         } = memory;
-        let levels = Levels {
-            choices: Choices::new(profile, rule),
-            clones: &clones,
-        };
         let alone = levels.alone();
         let stored = match level {
             Some(level) => Stored::of(&levels, k, level, ends).unwrap_or(None),
             None => None,
         };
         Families {
-            profile,
-            rule,
+            levels,
             k,
-            clones,
             alone,
             stored,
             dead: Cell::new(dead),
@@ -278,7 +256,7 @@ impl<'a, A: Allocator + Copy> Families<'a, A> {
         ensures { MatchOption result ⊤ (λ sets.
             sets.now ≡ sequential_winners self.now.rule self.now.election self.now.k) }
     {
-        let (clones, k) = (&self.clones, self.k);
+        let (clones, k) = (&self.levels.clones, self.k);
         let Some(stored) = &self.stored else {
             return None;
         };
@@ -337,16 +315,14 @@ impl<'a, A: Allocator + Copy> Families<'a, A> {
         }
         let question = Question {
             families: self,
-            levels: Levels {
-                choices: Choices::new(self.profile, self.rule),
-                clones: &self.clones,
-            },
+            levels: &self.levels,
             k: self.k,
             c,
             set,
             last: &self.last,
         };
-        let start = self.rule.step().start(self.profile.m());
+        let Choices { profile, rule, .. } = &self.levels.choices;
+        let start = rule.step().start(profile.m());
         let is_reached = question.leads(&mut dead, start);
         self.dead.set(dead);
         is_reached
@@ -422,7 +398,7 @@ impl<'a, A: Allocator + Copy> Families<'a, A> {
         requires high { c ≤ self.now.election.m }
         ensures { result ≡ clone_count self.now.election.rows set c }
     {
-        set.common(self.clones.class(c)).len()
+        set.common(self.levels.clones.class(c)).len()
     }
 }
 
@@ -434,7 +410,7 @@ impl<'a, A: Allocator + Copy> Tally for Families<'a, A> {
     ghost bound_of = { λ families c set left. if some_winner families c set left then 1 else 0 };
 
     fn m(&self) -> u8 {
-        self.profile.m()
+        self.levels.choices.profile.m()
     }
 
     fn value(&self, set: CandSet) -> u128 {

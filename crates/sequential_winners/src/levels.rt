@@ -19,20 +19,21 @@
 //! good, and stands for all sets between the two. `proofs/LevelLemmas.antt` shows, by induction over levels, that the
 //! choices still to be made lead from the sets of a level to exactly the committees that some sequence of choices
 //! makes.
-ghost use Rattle.std.specs.Prelude.{◌≡◌, ℕ, ◌<◌, ◌≤◌, ◌++◌, ◌∷◌, [], None, IfOk, OnOk};
+ghost use Rattle.std.specs.Prelude.{◌≡◌, ℕ, ◌<◌, ◌≤◌, ◌*◌, ◌++◌, ◌∷◌, [], None, IfOk, OnOk, nat_lt};
 ghost use Rattle.ballot_base.specs.Clones.{AreClones};
 ghost use Rattle.ballot_base.specs.Limits.{most_candidates};
 ghost use Rattle.ballot_base.specs.Lists.{IsIncreasing};
 ghost use Rattle.tie_walk.specs.Steps.Choices.{best_worth, tied_by, HasSetsOf};
 ghost use Rattle.sequential_winners.specs.Clones.{without_clones};
-ghost use Rattle.sequential_winners.specs.Steps.Levels.{ties_by, next_hit_by, given_by, near_by, begun_by, beginners_by, AreNear, end_by, followers_by, AreReached};
+ghost use Rattle.sequential_winners.specs.Steps.Levels.{ties_by, next_hit_by, given_by, beginners_by, AreNear, end_by, followers_by, AreReached};
 ghost use Rattle.sequential_winners.specs.Steps.Questions.{LeadsAhead};
 
 use crate::near::Nearness;
 use crate::question::forget;
-use ballot_base::{CandSet, Clones, PLACES};
+use ballot_base::{CandSet, Clones, PLACES, Profile};
 use std::alloc::{AllocError, Allocator};
 use std::collections::HashSet;
+use tie_walk::SeqRule;
 use tie_walk::sequential::{Choices, FoundSets, Step, put_in_order};
 
 /// Where the choices from a set lead.
@@ -50,8 +51,21 @@ pub(crate) enum Ahead {
 #[derive(Drop)]
 pub(crate) struct Levels<'a, A: Allocator + Copy> {
     pub(crate) choices: Choices<'a, A>,
-    pub(crate) clones: &'a Clones,
-    ghost classes: { AreClones choices.profile.now.m choices.profile.now.rows clones.now },
+    pub(crate) clones: Clones,
+    ghost classes: { AreClones choices.profile.now.m choices.profile.now.rows clones },
+}
+
+impl<'a, A: Allocator + Copy> Levels<'a, A> {
+    /// The levels of a rule on a profile. Allocates nothing.
+    pub(crate) fn new(profile: &'a Profile<A>, rule: SeqRule) -> Levels<'a, A>
+        ensures profile { result.choices.profile.now ≡ profile.now }
+        ensures rule { result.choices.rule ≡ rule }
+    {
+        Levels {
+            choices: Choices::new(profile, rule),
+            clones: Clones::of(profile),
+        }
+    }
 }
 
 impl<A: Allocator + Copy + Drop> Levels<'_, A> {
@@ -149,7 +163,18 @@ impl<A: Allocator + Copy + Drop> Levels<'_, A> {
         near
     }
 
-    /// The candidates who are followed from a set, where `left` choices are still to be made.
+    /// Whether the voters of some candidates give less than `left` times the best worth.
+    pub(crate) fn give_less(&self, set: CandSet, candidates: CandSet, left: u8, best: u128) -> bool
+        requires some { 0 < best }
+        ensures { result ≡ nat_lt
+            (given_by self.now.choices.rule self.now.choices.profile.now set candidates) (left * best) }
+    {
+        self.given(set, candidates) / best < u128::from(left)
+    }
+
+    /// The candidates who are followed from a set, where `left` choices are still to be made. If the voters of those
+    /// far from the centre give less than `left` times the best worth, the centre or somebody near it is chosen before
+    /// the best worth changes. So only these are followed.
     pub(crate) fn beginners(&self, set: CandSet, best: u128, ties: CandSet, left: u8) -> CandSet
         requires best { best ≡ best_worth self.now.choices.rule self.now.choices.profile.now set }
         requires ties { ties ≡ ties_by self.now.choices.rule self.now.choices.profile.now set }
@@ -160,30 +185,11 @@ impl<A: Allocator + Copy + Drop> Levels<'_, A> {
             return ties;
         }
         let near = self.nearness(set, ties);
-        match near.centre(ties, ties) {
-            Some(centre) => self.begun(set, best, ties, left, near.of(centre)),
-            None => ties,
-        }
-    }
-
-    /// The same, given the candidates near the centre, which is any of those who tie. If the voters of the others give
-    /// less than `left` times the best worth, the centre or somebody near it is chosen before the best worth changes.
-    /// So only these are followed.
-    pub(crate) fn begun(
-        &self,
-        set: CandSet,
-        best: u128,
-        ties: CandSet,
-        left: u8,
-        near: CandSet,
-    ) -> CandSet
-        requires some { 0 < best }
-        requires best { best ≡ best_worth self.now.choices.rule self.now.choices.profile.now set }
-        requires ties { ties ≡ ties_by self.now.choices.rule self.now.choices.profile.now set }
-        ensures { (centre : ℕ) → near ≡ near_by self.now.choices.rule self.now.choices.profile.now set centre ties
-            → result ≡ begun_by self.now.choices.rule self.now.choices.profile.now left set centre }
-    {
-        if self.given(set, ties.minus(near)) / best < u128::from(left) {
+        let Some(centre) = near.centre(ties, ties) else {
+            return ties;
+        };
+        let near = near.of(centre);
+        if self.give_less(set, ties.minus(near), left, best) {
             near
         } else {
             ties

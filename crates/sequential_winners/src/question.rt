@@ -32,15 +32,15 @@ pub(crate) const MOST_DEAD: usize = 1 << 18;
 #[derive(Drop)]
 pub(crate) struct Question<'q, 'a, A: Allocator + Copy> {
     pub(crate) families: &'q Families<'a, A>,
-    pub(crate) levels: Levels<'q, A>,
+    pub(crate) levels: &'q Levels<'a, A>,
     pub(crate) k: u8,
     pub(crate) c: u8,
     pub(crate) set: CandSet,
     /// Where the last search that found something has ended. Its choices are tried before others.
     pub(crate) last: &'q Cell<CandSet>,
-    ghost families_are: { families.now ≡ sequential_of levels.choices.profile.now levels.choices.rule k },
-    ghost fits: { k ≤ levels.choices.profile.now.m },
-    ghost within: { c ≤ levels.choices.profile.now.m },
+    ghost families_are: { families.now ≡ sequential_of levels.now.choices.profile.now levels.now.choices.rule k },
+    ghost fits: { k ≤ levels.now.choices.profile.now.m },
+    ghost within: { c ≤ levels.now.choices.profile.now.m },
     ghost candidates: { IsIncreasing 1 c set } by { IsIncreasing-prop 1 c set },
     ghost size: { length set ≤ k },
 }
@@ -49,17 +49,17 @@ impl<A: Allocator + Copy + Drop> Question<'_, '_, A> {
     /// Whether the choices still to be made lead from a set to a committee that is asked for. They do not from the sets
     /// in `dead`.
     pub(crate) fn leads(&self, dead: &mut Option<FoundSets<A>>, from: CandSet) -> bool
-        requires from { IsIncreasing 1 self.now.levels.choices.profile.now.m from }
-        requires few { chosen (step_of self.now.levels.choices.rule) self.now.levels.choices.profile.now.m from
-            ≤ choices_of self.now.levels.choices.rule self.now.levels.choices.profile.now.m self.now.k }
-        requires dead { MatchOption dead.old ⊤ (λ sets. AreDead self.now.levels.choices.rule
-            self.now.levels.choices.profile.now self.now.k self.now.c self.now.set sets.keys) }
-        ensures dead { MatchOption dead.new ⊤ (λ sets. AreDead self.now.levels.choices.rule
-            self.now.levels.choices.profile.now self.now.k self.now.c self.now.set sets.keys) }
-        ensures live { result ≡ true → IsLive self.now.levels.choices.rule
-            self.now.levels.choices.profile.now self.now.k self.now.c self.now.set from }
-        ensures none { result ≡ false → IsDead self.now.levels.choices.rule
-            self.now.levels.choices.profile.now self.now.k self.now.c self.now.set from }
+        requires from { IsIncreasing 1 self.now.levels.now.choices.profile.now.m from }
+        requires few { chosen (step_of self.now.levels.now.choices.rule) self.now.levels.now.choices.profile.now.m from
+            ≤ choices_of self.now.levels.now.choices.rule self.now.levels.now.choices.profile.now.m self.now.k }
+        requires dead { MatchOption dead.old ⊤ (λ sets. AreDead self.now.levels.now.choices.rule
+            self.now.levels.now.choices.profile.now self.now.k self.now.c self.now.set sets.keys) }
+        ensures dead { MatchOption dead.new ⊤ (λ sets. AreDead self.now.levels.now.choices.rule
+            self.now.levels.now.choices.profile.now self.now.k self.now.c self.now.set sets.keys) }
+        ensures live { result ≡ true → IsLive self.now.levels.now.choices.rule
+            self.now.levels.now.choices.profile.now self.now.k self.now.c self.now.set from }
+        ensures none { result ≡ false → IsDead self.now.levels.now.choices.rule
+            self.now.levels.now.choices.profile.now self.now.k self.now.c self.now.set from }
     {
         let Choices { profile, rule, .. } = &self.levels.choices;
         let total = rule.choices(profile.m(), self.k);
@@ -105,16 +105,17 @@ impl<A: Allocator + Copy + Drop> Question<'_, '_, A> {
     // Not inlined: it would take stack at each set of a search.
     #[inline(never)]
     fn branches(&self, from: CandSet, best: u128, ties: CandSet) -> Option<CandSet>
-        requires from { IsIncreasing 1 self.now.levels.choices.profile.now.m from }
-        requires more { chosen (step_of self.now.levels.choices.rule) self.now.levels.choices.profile.now.m from
-            < choices_of self.now.levels.choices.rule self.now.levels.choices.profile.now.m self.now.k }
-        requires end { end_by self.now.levels.choices.rule self.now.levels.choices.profile.now from ≡ None }
-        requires best { best ≡ best_worth self.now.levels.choices.rule self.now.levels.choices.profile.now from }
-        requires ties { ties ≡ ties_by self.now.levels.choices.rule self.now.levels.choices.profile.now from }
-        ensures live { result ≡ None → IsLive self.now.levels.choices.rule
-            self.now.levels.choices.profile.now self.now.k self.now.c self.now.set from }
-        ensures branches { MatchOption result ⊤ (AreBranches self.now.levels.choices.rule
-            self.now.levels.choices.profile.now self.now.k self.now.c self.now.set from) }
+        requires from { IsIncreasing 1 self.now.levels.now.choices.profile.now.m from }
+        requires more { chosen (step_of self.now.levels.now.choices.rule) self.now.levels.now.choices.profile.now.m from
+            < choices_of self.now.levels.now.choices.rule self.now.levels.now.choices.profile.now.m self.now.k }
+        requires end { end_by self.now.levels.now.choices.rule self.now.levels.now.choices.profile.now from ≡ None }
+        requires best { best ≡ best_worth self.now.levels.now.choices.rule
+            self.now.levels.now.choices.profile.now from }
+        requires ties { ties ≡ ties_by self.now.levels.now.choices.rule self.now.levels.now.choices.profile.now from }
+        ensures live { result ≡ None → IsLive self.now.levels.now.choices.rule
+            self.now.levels.now.choices.profile.now self.now.k self.now.c self.now.set from }
+        ensures branches { MatchOption result ⊤ (AreBranches self.now.levels.now.choices.rule
+            self.now.levels.now.choices.profile.now self.now.k self.now.c self.now.set from) }
     {
         let Choices { profile, rule, .. } = &self.levels.choices;
         let total = rule.choices(profile.m(), self.k);
@@ -141,25 +142,28 @@ impl<A: Allocator + Copy + Drop> Question<'_, '_, A> {
         let Some(centre) = near.centre(ties, allowed) else {
             return Some(ties);
         };
-        Some(self.levels.begun(from, best, ties, left, near.of(centre)))
+        let near = near.of(centre);
+        if self.levels.give_less(from, ties.minus(near), left, best) {
+            Some(near)
+        } else {
+            Some(ties)
+        }
     }
 
     /// One of the tied candidates, if no committee that is asked for is made without it by choices among them.
     fn needed(&self, from: CandSet, ties: CandSet) -> Option<u8>
-        requires from { IsIncreasing 1 self.now.levels.choices.profile.now.m from }
-        requires ties { ties ≡ ties_by self.now.levels.choices.rule self.now.levels.choices.profile.now from }
+        requires from { IsIncreasing 1 self.now.levels.now.choices.profile.now.m from }
+        requires ties { ties ≡ ties_by self.now.levels.now.choices.rule self.now.levels.now.choices.profile.now from }
         ensures { MatchOption result ⊤ (λ next. (has_member ties next ≡ true) × (may_be_in
-            self.now.levels.choices.profile.now.m self.now.levels.choices.profile.now.rows
+            self.now.levels.now.choices.profile.now.m self.now.levels.now.choices.profile.now.rows
             self.now.c self.now.set (self.now.k - length self.now.set)
-            (family_of (step_of self.now.levels.choices.rule) from
-            (fold (change (step_of self.now.levels.choices.rule)) from (without_member ties next))) ≡ false)) }
+            (family_of (step_of self.now.levels.now.choices.rule) from
+            (fold (change (step_of self.now.levels.now.choices.rule)) from (without_member ties next))) ≡ false)) }
     {
-        let needed = match self.levels.choices.rule.step() {
+        let Choices { profile, rule, .. } = &self.levels.choices;
+        let needed = match rule.step() {
             Step::Grow => ties.common(self.set),
-            Step::Shrink => ties.minus(
-                self.set
-                    .union(CandSet::after(self.c, self.levels.choices.profile.m())),
-            ),
+            Step::Shrink => ties.minus(self.set.union(CandSet::after(self.c, profile.m()))),
         };
         let (next, _) = needed.split_first()?;
         if !ties.has(next) || self.has_between(from, self.after_all(from, ties.without(next))) {
@@ -180,7 +184,7 @@ impl<A: Allocator + Copy + Drop> Question<'_, '_, A> {
 
     /// The set after the choice of each of these candidates.
     fn after_all(&self, from: CandSet, choices: CandSet) -> CandSet
-        ensures { result ≡ fold (change (step_of self.now.levels.choices.rule)) from choices }
+        ensures { result ≡ fold (change (step_of self.now.levels.now.choices.rule)) from choices }
     {
         match self.levels.choices.rule.step() {
             Step::Grow => from.union(choices),
@@ -190,7 +194,7 @@ impl<A: Allocator + Copy + Drop> Question<'_, '_, A> {
 
     /// The set after all choices that can be made.
     fn finish(&self) -> CandSet
-        ensures { result ≡ finish (step_of self.now.levels.choices.rule) self.now.levels.choices.profile.now.m }
+        ensures { result ≡ finish (step_of self.now.levels.now.choices.rule) self.now.levels.now.choices.profile.now.m }
     {
         let Choices { profile, rule, .. } = &self.levels.choices;
         match rule.step() {
@@ -203,7 +207,7 @@ impl<A: Allocator + Copy + Drop> Question<'_, '_, A> {
     fn after(&self, from: CandSet, next: u8) -> CandSet
         requires low { 1 ≤ next }
         requires high { next ≤ most_candidates }
-        ensures { result ≡ change (step_of self.now.levels.choices.rule) from next }
+        ensures { result ≡ change (step_of self.now.levels.now.choices.rule) from next }
     {
         match self.levels.choices.rule.step() {
             Step::Grow => from.with(next),
@@ -213,11 +217,12 @@ impl<A: Allocator + Copy + Drop> Question<'_, '_, A> {
 
     /// Whether a committee that is asked for lies between a set and another that choices make of it.
     fn has_between(&self, from: CandSet, end: CandSet) -> bool
-        requires from { IsIncreasing 1 self.now.levels.choices.profile.now.m from }
-        requires end { IsIncreasing 1 self.now.levels.choices.profile.now.m end }
-        ensures { result ≡ may_be_in self.now.levels.choices.profile.now.m self.now.levels.choices.profile.now.rows
+        requires from { IsIncreasing 1 self.now.levels.now.choices.profile.now.m from }
+        requires end { IsIncreasing 1 self.now.levels.now.choices.profile.now.m end }
+        ensures { result ≡ may_be_in self.now.levels.now.choices.profile.now.m
+            self.now.levels.now.choices.profile.now.rows
             self.now.c self.now.set (self.now.k - length self.now.set)
-            (family_of (step_of self.now.levels.choices.rule) from end) }
+            (family_of (step_of self.now.levels.now.choices.rule) from end) }
     {
         let family = match self.levels.choices.rule.step() {
             Step::Grow => (from, end),

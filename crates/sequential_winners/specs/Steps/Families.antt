@@ -4,9 +4,7 @@ use Rattle.std.specs.List.{list_all, range_with_len}
 use Rattle.ballot_base.specs.Limits.{most_candidates}
 use Rattle.ballot_base.specs.Ballots.{Row, Election}
 use Rattle.tie_walk.specs.Winners.{Winning}
-use Rattle.tie_walk.specs.declared.sequential.SeqRule.{SeqRule}
 use Rattle.sequential_winners.specs.Clones.{is_between}
-use Rattle.ballot_base.specs.Clones.{AreClones}
 use Rattle.sequential_winners.specs.Steps.Tables.{completed}
 
 -- Whether the family has a committee of the set and of `left` of the candidates after c. At most `left` of them are
@@ -19,11 +17,10 @@ may_be_in m rows c set left family =
     && nat_le (length set + left) (length full)
 
 -- what the winners of k keep of an election, whether or not their families are stored
-pub record KeepsElection (e : Election) (rule : SeqRule) (k : ℕ) (clones : List (List ℕ)) : Type 0 where
+pub record KeepsElection (e : Election) (k : ℕ) : Type 0 where
   pub some : 1 ≤ k
   pub most : e.m ≤ most_candidates
   pub fits : k ≤ e.m
-  pub clones_are : AreClones e.m e.rows clones
 
 -- whether each candidate is its only clone
 abbrev pub are_apart : ℕ → List (List ℕ) → Bool

@@ -8,6 +8,6 @@ use Rattle.sequential_winners.proofs.families.Families.count.Goals as goal
 pub returns : goal.returns
 returns g c =
     let f = c.self.inside in
-    let e = f.profile.now in
+    let e = f.levels.choices.profile.now in
     subst (λ (s : Sequential). IsIncreasing 1 s.election.m c.args.set → c.args.c ≤ s.election.m → c.len.result ≡ clone_count s.election.rows c.args.set c.args.c) c.self.view_is
-    (λ up high. c.len.ensures.count ∙ ap length c.common.ensures ∙ own-count e.m e.rows f.clones c.args.c c.class.result c.args.set c.self.invariant.0.clones_are c.requires.low high c.class.ensures up) c.requires.set c.requires.high
+    (λ up high. c.len.ensures.count ∙ ap length c.common.ensures ∙ own-count e.m e.rows f.levels.clones c.args.c c.class.result c.args.set f.levels.classes c.requires.low high c.class.ensures up) c.requires.set c.requires.high

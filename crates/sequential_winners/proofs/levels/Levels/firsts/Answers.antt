@@ -21,7 +21,7 @@ all-there true x = refl
 all-there false x = refl
 
 -- whether the candidate is the first of its clones that may be chosen
-first-is : (g : _) (c : After-is_empty g) → is_first_open (step_of c.args.self.now.choices.rule) (get_or c.args.self.now.clones.now c.in-Some.c []) c.args.set c.in-Some.c ≡ c.is_empty.result
+first-is : (g : _) (c : After-is_empty g) → is_first_open (step_of c.args.self.now.choices.rule) (get_or c.args.self.now.clones c.in-Some.c []) c.args.set c.in-Some.c ≡ c.is_empty.result
 first-is g c =
     let s = c.args.self.now.choices in
     let e = s.profile.now in
@@ -32,7 +32,7 @@ first-is g c =
     let here : has_member c.args.tied k ≡ true = c.loop-c.invariant.inside k (subst (λ l. has_member l k ≡ true) (sym c.in-Some.ensures.steps) (has_member_head k c.next.new.self)) in
     let parts = and_parts (is_choice step weights e.m e.rows set k) (has_member (range_with_len 1 e.m) k) (sym (has_member-filter (is_choice step weights e.m e.rows set) (range_with_len 1 e.m) k) ∙ subst (λ l. has_member l k ≡ true) c.requires here) in
     let bounds = in_bounds e.m (range_with_len 1 e.m) k (IsIncreasing-range 1 e.m e.m (omega arith)) parts.1 in
-    let class : get_or c.args.self.now.clones.now k [] ≡ clones_among e.m e.rows k = c.args.self.now.classes k bounds.0 bounds.1 in
+    let class : get_or c.args.self.now.clones k [] ≡ clones_among e.m e.rows k = c.args.self.now.classes k bounds.0 bounds.1 in
     let low : c.upto.result ≡ members_upto (common_members (clones_among e.m e.rows k) (tied_by s.rule e set)) (k - 1) =
     rw (c.upto.ensures, c.common.ensures, c.class.ensures, class, c.requires) in
     ap (λ l. is_first_open step l set k) class
@@ -50,7 +50,7 @@ upto-requires g c = omega (arith, (rest-up most_candidates c.in-Some.c c.loop-c.
 pub loop-c-preserved-then-not-is_empty : goal.loop-c-preserved-then-not-is_empty
 loop-c-preserved-then-not-is_empty g c =
     let s = c.args.self.now.choices in
-    let passes : ℕ → Bool = λ n. is_first_open (step_of s.rule) (get_or c.args.self.now.clones.now n []) c.args.set n in
+    let passes : ℕ → Bool = λ n. is_first_open (step_of s.rule) (get_or c.args.self.now.clones n []) c.args.set n in
     let first = c.in-Some.c in
     let rest = c.next.new.self in
     let next = rest-up most_candidates first c.loop-c.c-iterator rest c.in-Some.ensures.steps c.loop-c.invariant.rises in
@@ -69,6 +69,6 @@ pub returns : goal.returns
 returns g c =
     let s = c.args.self.now.choices in
     let e = s.profile.now in
-    let passes : ℕ → Bool = λ n. is_first_open (step_of s.rule) (get_or c.args.self.now.clones.now n []) c.args.set n in
+    let passes : ℕ → Bool = λ n. is_first_open (step_of s.rule) (get_or c.args.self.now.clones n []) c.args.set n in
     all-left passes c.args.tied most_candidates c.loop-c.firsts c.members-c-items.ensures.valid c.loop-c.invariant.set (subst (AreLeft passes c.args.tied c.loop-c.firsts) c.in-None.ensures.steps.0 c.loop-c.invariant.each)
-    ∙ ap (filter passes) c.requires ∙ firsts-are (step_of s.rule) (hit_weights s.rule e.m) e.m e.rows c.args.set c.args.self.now.clones.now c.args.self.now.classes
+    ∙ ap (filter passes) c.requires ∙ firsts-are (step_of s.rule) (hit_weights s.rule e.m) e.m e.rows c.args.set c.args.self.now.clones c.args.self.now.classes

@@ -13,5 +13,5 @@ invariant-loop-c g l = record {
   rises : IsIncreasing 1 most_candidates l.c-iterator;
   inside : (n : ℕ) → has_member l.c-iterator n ≡ true → has_member l.fn.tied n ≡ true;
   set : IsIncreasing 1 most_candidates l.firsts;
-  each : AreLeft (λ n. is_first_open (step_of l.self.choices.rule) (get_or l.self.clones.now n []) l.fn.set n) l.fn.tied l.firsts l.c-iterator;
+  each : AreLeft (λ n. is_first_open (step_of l.self.choices.rule) (get_or l.self.clones n []) l.fn.set n) l.fn.tied l.firsts l.c-iterator;
 }
