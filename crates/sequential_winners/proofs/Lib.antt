@@ -1,5 +1,6 @@
 pub mod AloneLemmas
 pub mod ApartLemmas
+pub mod BlockLemmas
 pub mod BranchLemmas
 pub mod CloneLemmas
 pub mod CompletionLemmas

@@ -7,19 +7,19 @@
 //! each committee once.
 //!
 //! If there are too many families to be stored, the bound asks a search the same question (module `question`).
-ghost use Rattle.std.specs.Prelude.{◌≡◌, ◌≤◌, ◌-◌, ⊤, IfOk, MatchOption, length, if◌then◌else◌};
+ghost use Rattle.std.specs.Prelude.{◌≡◌, ◌<◌, ◌≤◌, ◌-◌, ⊤, IfOk, OnOk, MatchOption, length, if◌then◌else◌};
 ghost use Rattle.ballot_base.specs.Lists.{IsIncreasing};
 ghost use Rattle.tie_walk.specs.Sequences.{sequential_winners};
 ghost use Rattle.sequential_winners.specs.Clones.{clone_count, has_as_many};
 ghost use Rattle.sequential_winners.specs.Families.{sequential_of, is_winner, some_winner};
-ghost use Rattle.sequential_winners.specs.Steps.Families.{may_be_in};
+ghost use Rattle.sequential_winners.specs.Steps.Families.{may_be_in, IsBlock, AreBlocks, IsBlockAnswer};
 ghost use Rattle.sequential_winners.specs.Steps.Levels.{AreFamilies, AreReached};
 ghost use Rattle.tie_walk.specs.Steps.Choices.{choices_of};
 ghost use Rattle.sequential_winners.specs.Steps.Tables.{completed};
 
 use crate::levels::{Level, Levels};
 use crate::question::{MOST_DEAD, Question, forget};
-use ballot_base::{CandSet, Profile};
+use ballot_base::{CandSet, MOST_CANDIDATES, Profile};
 use std::alloc::{AllocError, Allocator, Global};
 use std::cell::Cell;
 use std::collections::HashSet;
@@ -38,6 +38,9 @@ const FEW_SETS: usize = 1 << 12;
 /// write, so that the first lines do not wait for large levels. Any number works.
 const FEW_VISITS: usize = 1 << 20;
 
+/// How many families in a row a block has.
+const BLOCK: usize = 64;
+
 /// All memory for the winners of a sequential rule, and the levels up to the first that has many sets. Contracts see
 /// the election, the rule and `k`.
 #[derive(Drop)]
@@ -48,6 +51,8 @@ pub struct FamilyMemory<'a, A: Allocator + Copy = Global> {
     level: Option<Level<A>>,
     // Room for the other set of each family.
     ends: Vec<CandSet, A>,
+    // Room for the blocks of families.
+    blocks: Vec<(CandSet, CandSet), A>,
     // Room for the sets that lead to nothing, if levels may have too many sets.
     dead: Option<FoundSets<A>>,
 }
@@ -92,13 +97,16 @@ impl<'a, A: Allocator + Copy + Drop> FamilyMemory<'a, A> {
         };
         levels.go_on(&mut level, total, most)?;
         let mut ends = Vec::new(alloc);
+        let mut blocks = Vec::new(alloc);
         if level.size == total {
             ends.reserve_exact(level.sets.len())?;
+            blocks.reserve_exact(level.sets.len() / BLOCK + 1)?;
             return Ok(FamilyMemory {
                 levels,
                 k,
                 level: Some(level),
                 ends,
+                blocks,
                 dead: None,
             });
         }
@@ -107,12 +115,14 @@ impl<'a, A: Allocator + Copy + Drop> FamilyMemory<'a, A> {
         }
         level.reserve(MOST_SETS)?;
         ends.reserve_exact(MOST_SETS)?;
+        blocks.reserve_exact(MOST_SETS / BLOCK + 1)?;
         let dead = HashSet::with_capacity(alloc, MOST_DEAD)?;
         Ok(FamilyMemory {
             levels,
             k,
             level: Some(level),
             ends,
+            blocks,
             dead: Some(dead),
         })
     }
@@ -135,6 +145,7 @@ impl<'a, A: Allocator + Copy + Drop> FamilyMemory<'a, A> {
             k,
             level: None,
             ends: Vec::new(alloc),
+            blocks: Vec::new(alloc),
             dead: Some(dead),
         })
     }
@@ -164,13 +175,15 @@ pub struct Families<'a, A: Allocator + Copy = Global> {
 struct Stored<A: Allocator + Copy> {
     leasts: Vec<CandSet, A>,
     mosts: Vec<CandSet, A>,
+    /// For each `BLOCK` families in a row, what all their least sets have, and what some of their most sets has.
+    blocks: Vec<(CandSet, CandSet), A>,
 }
 
 impl<'a, A: Allocator + Copy> Model for Families<'a, A> {
     ghost use Rattle.std.specs.Prelude.{◌≡◌, ⊤, MatchOption};
     ghost use Rattle.sequential_winners.specs.Clones.{without_clones};
     ghost use Rattle.sequential_winners.specs.Families.{Sequential, sequential_of};
-    ghost use Rattle.sequential_winners.specs.Steps.Families.{KeepsElection};
+    ghost use Rattle.sequential_winners.specs.Steps.Families.{KeepsElection, AreBlocks};
     ghost use Rattle.sequential_winners.specs.Steps.Levels.{AreFamilies};
 
     ghost Value = { Sequential };
@@ -179,7 +192,7 @@ impl<'a, A: Allocator + Copy> Model for Families<'a, A> {
 
     ghost invariant = { λ f. KeepsElection f.levels.choices.profile.now f.k
         × MatchOption f.stored ⊤ (λ s. AreFamilies f.levels.choices.rule f.levels.choices.profile.now f.k
-        s.leasts.items s.mosts.items)
+        s.leasts.items s.mosts.items × AreBlocks s.leasts.items s.mosts.items s.blocks.items)
         × (f.alone ≡ without_clones f.levels.choices.profile.now.m f.levels.choices.profile.now.rows) };
 }
 
@@ -193,11 +206,12 @@ impl<'a, A: Allocator + Copy + Drop> Families<'a, A> {
             k,
             level,
             ends,
+            blocks,
             dead,
         } = memory;
         let alone = levels.alone();
         let stored = match level {
-            Some(level) => Stored::of(&levels, k, level, ends).unwrap_or(None),
+            Some(level) => Stored::of(&levels, k, level, (ends, blocks)).unwrap_or(None),
             None => None,
         };
         Families {
@@ -217,14 +231,16 @@ impl<A: Allocator + Copy + Drop> Stored<A> {
         levels: &Levels<'_, A>,
         k: u8,
         mut level: Level<A>,
-        mut ends: Vec<CandSet, A>,
+        room: (Vec<CandSet, A>, Vec<(CandSet, CandSet), A>),
     ) -> Result<Option<Stored<A>>, AllocError>
         requires fits { k ≤ levels.now.choices.profile.now.m }
         requires level { AreReached levels.now.choices.rule levels.now.choices.profile.now
             (choices_of levels.now.choices.rule levels.now.choices.profile.now.m k) level.size level.sets.items }
         ensures { IfOk result (λ stored. MatchOption stored ⊤ (λ s. AreFamilies levels.now.choices.rule
-            levels.now.choices.profile.now k s.leasts.items s.mosts.items)) }
+            levels.now.choices.profile.now k s.leasts.items s.mosts.items
+            × AreBlocks s.leasts.items s.mosts.items s.blocks.items)) }
     {
+        let (mut ends, mut blocks) = room;
         let Choices { profile, rule, .. } = &levels.choices;
         let total = rule.choices(profile.m(), k);
         levels.go_on(&mut level, total, MOST_SETS)?;
@@ -245,8 +261,43 @@ impl<A: Allocator + Copy + Drop> Stored<A> {
             Step::Grow => (sets, ends),
             Step::Shrink => (ends, sets),
         };
-        Ok(Some(Stored { leasts, mosts }))
+        put_blocks(&leasts, &mosts, &mut blocks)?;
+        Ok(Some(Stored {
+            leasts,
+            mosts,
+            blocks,
+        }))
     }
+}
+
+/// Puts the blocks of families in the place of others.
+fn put_blocks<A: Allocator + Copy>(
+    leasts: &[CandSet],
+    mosts: &[CandSet],
+    blocks: &mut Vec<(CandSet, CandSet), A>,
+) -> Result<(), AllocError>
+    requires { length mosts.now ≡ length leasts.now }
+    ensures { OnOk result (AreBlocks leasts.now mosts.now blocks.new.items) }
+{
+    blocks.clear();
+    for block in 0..leasts.len() / BLOCK + 1 {
+        blocks.push(block_from(leasts, mosts, block * BLOCK))?;
+    }
+    Ok(())
+}
+
+/// The block of the families from a place on.
+fn block_from(leasts: &[CandSet], mosts: &[CandSet], start: usize) -> (CandSet, CandSet)
+    requires { length mosts.now ≡ length leasts.now }
+    ensures { IsBlock leasts.now mosts.now start result }
+{
+    let mut common = CandSet::all(MOST_CANDIDATES);
+    let mut all = CandSet::empty();
+    for i in start..start.saturating_add(BLOCK).min(leasts.len()) {
+        common = common.common(leasts[i]);
+        all = all.union(mosts[i]);
+    }
+    (common, all)
 }
 
 impl<'a, A: Allocator + Copy> Families<'a, A> {
@@ -288,14 +339,43 @@ impl<'a, A: Allocator + Copy> Families<'a, A> {
     fn is_in_some(&self, stored: &Stored<A>, c: u8, set: CandSet) -> bool
         requires families { AreFamilies self.now.rule self.now.election self.now.k stored.now.leasts.items
             stored.now.mosts.items }
+        requires blocks { AreBlocks stored.now.leasts.items stored.now.mosts.items stored.now.blocks.items }
         requires fits { self.now.k ≤ self.now.election.m }
         requires within { c ≤ self.now.election.m }
         requires set { IsIncreasing 1 c set }
         requires size { length set ≤ self.now.k }
         ensures { result ≡ some_winner self.now c set (self.now.k - length set) }
     {
-        for (least, most) in stored.leasts.iter().zip(&stored.mosts) {
-            if self.may_be_in((*least, *most), c, set) {
+        for block in 0..stored.blocks.len() {
+            if self.is_in_block(stored, block, c, set) {
+                return true;
+            }
+        }
+        false
+    }
+
+    /// Whether a family of a block has such a committee. Most blocks are passed over at once, by a candidate without
+    /// clones: `set` has it and no most set does, or all least sets have it and `set` has passed over it.
+    fn is_in_block(&self, stored: &Stored<A>, block: usize, c: u8, set: CandSet) -> bool
+        requires families { AreFamilies self.now.rule self.now.election self.now.k stored.now.leasts.items
+            stored.now.mosts.items }
+        requires blocks { AreBlocks stored.now.leasts.items stored.now.mosts.items stored.now.blocks.items }
+        requires fits { self.now.k ≤ self.now.election.m }
+        requires within { c ≤ self.now.election.m }
+        requires set { IsIncreasing 1 c set }
+        requires size { length set ≤ self.now.k }
+        requires inside { block < length stored.now.blocks.items }
+        ensures { IsBlockAnswer self.now c set stored.now.leasts.items stored.now.mosts.items block result }
+    {
+        let (common, all) = stored.blocks[block];
+        if !all.includes(set.common(self.alone))
+            || !set.includes(common.common(self.alone).upto(c))
+        {
+            return false;
+        }
+        let start = block.saturating_mul(BLOCK);
+        for i in start..start.saturating_add(BLOCK).min(stored.leasts.len()) {
+            if self.may_be_in((stored.leasts[i], stored.mosts[i]), c, set) {
                 return true;
             }
         }

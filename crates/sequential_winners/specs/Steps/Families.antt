@@ -1,10 +1,12 @@
 -- What the families of winners keep.
-use Rattle.std.specs.Prelude.{ℕ, ◌+◌, ◌≤◌, ◌&&◌, ◌==◌, Bool, List, [], Option, None, Some, length, nat_le, slice_index_or}
-use Rattle.std.specs.List.{list_all, range_with_len}
+use Rattle.std.specs.Prelude.{◌≡◌, ℕ, true, false, ◌+◌, ◌-◌, ◌*◌, ◌<◌, ◌≤◌, ◌&&◌, ◌==◌, Bool, List, [], Option, None, Some, length, nat_le, slice_index_or}
+use Rattle.std.specs.List.{list_all, list_any, range_with_len, zip}
+use Rattle.ballot_base.specs.CandSet.{has_member}
 use Rattle.ballot_base.specs.Limits.{most_candidates}
 use Rattle.ballot_base.specs.Ballots.{Row, Election}
 use Rattle.tie_walk.specs.Winners.{Winning}
 use Rattle.sequential_winners.specs.Clones.{is_between}
+use Rattle.sequential_winners.specs.Families.{Sequential}
 use Rattle.sequential_winners.specs.Steps.Tables.{completed}
 
 -- Whether the family has a committee of the set and of `left` of the candidates after c. At most `left` of them are
@@ -21,6 +23,27 @@ pub record KeepsElection (e : Election) (k : ℕ) : Type 0 where
   pub some : 1 ≤ k
   pub most : e.m ≤ most_candidates
   pub fits : k ≤ e.m
+
+-- of the 64 families from a place on, each least set has what the first set has, and the second has what each most set
+-- has
+abbrev pub IsBlock : List (List ℕ) → List (List ℕ) → ℕ → List ℕ × List ℕ → Type 0
+IsBlock leasts mosts start block =
+    (i : ℕ) → start ≤ i → i < start + 64 → i < length leasts → (n : ℕ)
+    → (has_member block.0 n ≡ true → has_member (slice_index_or leasts i []) n ≡ true)
+    × (has_member (slice_index_or mosts i []) n ≡ true → has_member block.1 n ≡ true)
+
+-- each 64 families in a row have a block
+pub record AreBlocks (leasts mosts : List (List ℕ)) (blocks : List (List ℕ × List ℕ)) : Type 0 where
+  pub enough : length leasts ≤ 64 * length blocks
+  pub each : (b : ℕ) → b < length blocks → IsBlock leasts mosts (b * 64) (slice_index_or blocks b ([], []))
+
+-- true only if some family has a committee that is asked for, and false only if none of the block has one
+abbrev pub IsBlockAnswer : Sequential → ℕ → List ℕ → List (List ℕ) → List (List ℕ) → ℕ → Bool → Type 0
+IsBlockAnswer s c set leasts mosts block result =
+    let p = may_be_in s.election.m s.election.rows c set (s.k - length set) in
+    (result ≡ true → list_any p (zip leasts mosts) ≡ true)
+    × (result ≡ false → (i : ℕ) → block * 64 ≤ i → i < block * 64 + 64 → i < length leasts
+    → p (slice_index_or leasts i [], slice_index_or mosts i []) ≡ false)
 
 -- whether each candidate is its only clone
 abbrev pub are_apart : ℕ → List (List ℕ) → Bool

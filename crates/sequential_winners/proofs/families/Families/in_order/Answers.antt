@@ -17,5 +17,5 @@ returns g c =
     all_from_yields_List (λ x. length (get_or f.levels.clones x []) == 1) _ _ c.all-are_apart.result c.all-are_apart.ensures.ran (YieldsList-from_range 1 (c.m.result + 1) c.m.result refl (omega arith)) (λ x b q k. search (rules, tests)) in
     let sizes : c.all.result ≡ list_all (λ (set : List ℕ). length set == f.k) c.in-Some.stored.leasts.items =
     all_from_yields_List (λ (set : List ℕ). length set == f.k) _ _ c.all.result c.all.ensures.ran (YieldsList-from_slice c.in-Some.stored.leasts.items (c.iter.ensures.rest ∙ c.deref.ensures.value)) (λ x b q k. search (rules, tests)) in
-    plain-winners f.levels.choices.rule f.levels.choices.profile.now f.k c.m.result f.levels.clones c.in-Some.stored.leasts.items c.in-Some.stored.mosts.items c.deref-2.result.now m-is c.deref-2.ensures.value (rw c.in-Some.is at inv.1) f.levels.classes (sym apart ∙ c.if-not-are_apart.false) (sym sizes ∙ c.if-not-all.false)
+    plain-winners f.levels.choices.rule f.levels.choices.profile.now f.k c.m.result f.levels.clones c.in-Some.stored.leasts.items c.in-Some.stored.mosts.items c.deref-2.result.now m-is c.deref-2.ensures.value (rw c.in-Some.is at inv.1).0 f.levels.classes (sym apart ∙ c.if-not-are_apart.false) (sym sizes ∙ c.if-not-all.false)
     ∙ ap (λ (x : Sequential). sequential_winners x.rule x.election x.k) c.self.view_is

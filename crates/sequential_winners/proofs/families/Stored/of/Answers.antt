@@ -51,6 +51,6 @@ returns g c =
     let all : AreFamilies rule e k (leasts_of step sets ends) (mosts_of step sets ends) =
     last-families rule rule e e k c.choices-total.result step sets ends refl refl c.requires.fits c.m.ensures.valid.ballots c.step.ensures total reached ends-are in
     elim c.match-step.branch [
-      | in-Grow w ↦ rw w.leasts-is (subst (λ s. AreFamilies rule e k (leasts_of s sets ends) (mosts_of s sets ends)) w.in-Grow.is all)
-      | in-Shrink w ↦ rw w.leasts-is (subst (λ s. AreFamilies rule e k (leasts_of s sets ends) (mosts_of s sets ends)) w.in-Shrink.is all)
+      | in-Grow w ↦ rw w.leasts-is (subst (λ s. AreFamilies rule e k (leasts_of s sets ends) (mosts_of s sets ends)) w.in-Grow.is all, (rw (c.deref.ensures.value, c.deref-2.ensures.value, w.leasts-is) at c.in_ok-put_blocks.ensures))
+      | in-Shrink w ↦ rw w.leasts-is (subst (λ s. AreFamilies rule e k (leasts_of s sets ends) (mosts_of s sets ends)) w.in-Shrink.is all, (rw (c.deref.ensures.value, c.deref-2.ensures.value, w.leasts-is) at c.in_ok-put_blocks.ensures))
     ]
