@@ -1,7 +1,7 @@
 -- Families that lie in a block: what its two sets rule out, none of them has.
-use Rattle.std.proofs.Common.{◌≡◌, ℕ, zero, suc, ◌+◌, ◌-◌, ◌<◌, ◌≤◌, ◌&&◌, ◌∙◌, Bool, true, false, List, [], refl, sym, ap, arith, inl, inr, length, take, get_or, min}
+use Rattle.std.proofs.Common.{◌≡◌, ℕ, zero, suc, ◌+◌, ◌-◌, ◌<◌, ◌≤◌, ◌∙◌, Bool, true, false, List, [], refl, sym, ap, arith, inl, inr, length, take, get_or}
 use Rattle.std.specs.Prelude.{nat_le}
-use Rattle.std.specs.List.{list_any, zip, AllByRecursion}
+use Rattle.std.specs.List.{list_any, zip}
 use Rattle.std.proofs.lemmas.Bool.{cases_Bool, both_ways, and_parts, and_from}
 use Rattle.std.proofs.lemmas.List.{get_or_default}
 use Rattle.std.proofs.lemmas.List.Elements.{All-from_recursion}
@@ -13,7 +13,7 @@ use Rattle.sequential_winners.specs.Families.{Sequential}
 use Rattle.sequential_winners.specs.Steps.Families.{may_be_in, IsBlock}
 use Rattle.sequential_winners.specs.Steps.Levels.{AreFamilies}
 use Rattle.sequential_winners.proofs.AloneLemmas.{most-lacks, least-lacks}
-use Rattle.sequential_winners.proofs.Lists.{all-at, all-fails, some-fails}
+use Rattle.sequential_winners.proofs.Lists.{all-fails, some-fails}
 use Rattle.sequential_winners.proofs.PairLemmas.{pairs-end, pairs-more}
 
 -- no pair passes if none at any place does

@@ -1,4 +1,4 @@
-use Rattle.std.proofs.Common.{◌≡◌, ◌<◌, ◌≤◌, ◌∙◌, ◌||◌, ℕ, true, [], sym, ap, arith, inl, inr, get_or, subst}
+use Rattle.std.proofs.Common.{◌≡◌, ◌∙◌, ◌||◌, true, [], sym, ap, arith, inl, inr, get_or}
 use Rattle.std.proofs.lemmas.Bool.{cases_lt, and_parts, or_left, or_right}
 use Rattle.std.proofs.lemmas.List.{get_or_default}
 use Rattle.ballot_base.specs.CandSet.{has_member}
@@ -14,14 +14,13 @@ loop-i-preserved c j from before n =
     let all : has_member c.union-all.result n ≡ (has_member c.loop-i.all n || has_member most n) = ap (λ l. has_member l n) c.union-all.ensures ∙ has_member-either c.loop-i.all most n in
     elim (cases_lt j c.loop-i.i) [
       | inl earlier ↦ (
-          λ inside. (c.loop-i.invariant j from earlier n).0 (common inside).1,
-          λ inside. all ∙ or_left (has_member c.loop-i.all n) (has_member most n) ((c.loop-i.invariant j from earlier n).1 inside),
-        )
+        λ inside. (c.loop-i.invariant j from earlier n).0 (common inside).1,
+        λ inside. all ∙ or_left (has_member c.loop-i.all n) (has_member most n) ((c.loop-i.invariant j from earlier n).1 inside),
+      )
       | inr later ↦
           let here : j ≡ c.loop-i.i = omega (arith, before, later) in
           let least-is : get_or c.args.leasts.now j [] ≡ least = ap (λ k. get_or c.args.leasts.now k []) here ∙ get_or_default c.args.leasts.now c.loop-i.i [] least (omega (arith, c.loop-i-test.true, c.min-i-end.ensures)) ∙ sym c.index-leasts-i.is in
-          let most-is : get_or c.args.mosts.now j [] ≡ most = ap (λ k. get_or c.args.mosts.now k []) here ∙ get_or_default c.args.mosts.now c.loop-i.i [] most (omega (arith, c.loop-i-test.true, c.min-i-end.ensures, c.requires)) ∙ sym c.index-mosts-i.is in
-          (
+          let most-is : get_or c.args.mosts.now j [] ≡ most = ap (λ k. get_or c.args.mosts.now k []) here ∙ get_or_default c.args.mosts.now c.loop-i.i [] most (omega (arith, c.loop-i-test.true, c.min-i-end.ensures, c.requires)) ∙ sym c.index-mosts-i.is in (
             λ inside. ap (λ l. has_member l n) least-is ∙ (common inside).0,
             λ inside. all ∙ or_right (has_member c.loop-i.all n) (has_member most n) (sym (ap (λ l. has_member l n) most-is) ∙ inside),
           )

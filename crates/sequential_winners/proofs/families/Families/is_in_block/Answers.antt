@@ -1,5 +1,4 @@
-use Rattle.std.proofs.Common.{◌≡◌, ◌+◌, ◌-◌, ◌*◌, ◌<◌, ◌≤◌, ◌∙◌, ℕ, Bool, List, true, false, [], sym, ap, subst, arith, inl, inr, length, get_or}
-use Rattle.std.specs.List.{zip}
+use Rattle.std.proofs.Common.{◌≡◌, ◌-◌, ◌*◌, ◌<◌, ◌∙◌, ℕ, Bool, List, true, false, [], sym, ap, subst, arith, inl, inr, length, get_or}
 use Rattle.std.proofs.lemmas.Bool.{cases_lt}
 use Rattle.std.proofs.lemmas.List.{get_or_default}
 use Rattle.ballot_base.specs.CandSet.{common_members, includes, members_upto}
@@ -24,15 +23,15 @@ returns-then-not-includes g c =
     subst (IsBlock leasts mosts (c.args.block * 64)) (get_or_default c.args.stored.now.blocks.items c.args.block ([], []) block c.requires.inside ∙ sym c.index.ensures) (c.requires.blocks.each c.args.block c.requires.inside) in
     elim c.then-not-includes.branch [
       | then-not-includes-via-then-not-includes w ↦ (
-          λ is. absurd (let wrong : false ≡ true = is in cc),
-          λ _ i from before inside. most-skips s leasts mosts c.requires.families c.args.c set c.requires.within c.requires.set (c.args.block * 64) block is-block i from before inside
-          (sym (c.includes.ensures ∙ ap (includes block.1) (c.common.ensures ∙ ap (common_members set) alone-is)) ∙ w.if-not-includes.true),
-        )
+        λ is. absurd (let wrong : false ≡ true = is in cc),
+        λ _ i from before inside. most-skips s leasts mosts c.requires.families c.args.c set c.requires.within c.requires.set (c.args.block * 64) block is-block i from before inside
+            (sym (c.includes.ensures ∙ ap (includes block.1) (c.common.ensures ∙ ap (common_members set) alone-is)) ∙ w.if-not-includes.true),
+      )
       | then-not-includes-via-else-not-includes+then-not-includes-2 w ↦ (
-          λ is. absurd (let wrong : false ≡ true = is in cc),
-          λ _ i from before inside. least-skips s leasts mosts c.requires.families c.args.c set c.requires.within c.requires.set (c.args.block * 64) block is-block i from before inside
-          (sym (w.includes-else-not-includes.ensures ∙ ap (includes set) (w.upto.ensures ∙ ap (λ l. members_upto l c.args.c) (w.common-else-not-includes.ensures ∙ ap (common_members block.0) alone-is))) ∙ w.if-not-includes-2.true),
-        )
+        λ is. absurd (let wrong : false ≡ true = is in cc),
+        λ _ i from before inside. least-skips s leasts mosts c.requires.families c.args.c set c.requires.within c.requires.set (c.args.block * 64) block is-block i from before inside
+            (sym (w.includes-else-not-includes.ensures ∙ ap (includes set) (w.upto.ensures ∙ ap (λ l. members_upto l c.args.c) (w.common-else-not-includes.ensures ∙ ap (common_members block.0) alone-is))) ∙ w.if-not-includes-2.true),
+      )
     ]
 
 -- what is asked of the family at i
@@ -58,10 +57,9 @@ returns-then-may_be_in g c =
     let i = c.loop-i.i in
     let p : List ℕ × List ℕ → Bool = may_be_in s.election.m s.election.rows c.args.c c.args.set (s.k - length c.args.set) in
     let inside : i < length leasts = omega (arith, c.loop-i-test.true, c.min-i-end.ensures, c.len.ensures) in
-    let inside' : i < length mosts = omega (arith, inside, c.requires.families.paired) in
-    (
+    let inside' : i < length mosts = omega (arith, inside, c.requires.families.paired) in (
       λ _. pairs-pass p leasts mosts i (get_or leasts i []) (get_or mosts i []) inside inside' (λ d. get_or_default leasts i [] d inside) (λ d. get_or_default mosts i [] d inside')
-      (at-place g (goal.at.returns-then-may_be_in g c).After-may_be_in ∙ c.if-may_be_in.true),
+          (at-place g (goal.at.returns-then-may_be_in g c).After-may_be_in ∙ c.if-may_be_in.true),
       λ is. absurd (let wrong : true ≡ false = is in cc),
     )
 

@@ -1,4 +1,4 @@
-use Rattle.std.proofs.Common.{◌≡◌, ◌+◌, ◌-◌, ◌*◌, ◌<◌, ◌≤◌, ◌∙◌, ℕ, Bool, List, [], refl, sym, arith, inl, inr, length}
+use Rattle.std.proofs.Common.{◌-◌, ◌*◌, ◌∙◌, ℕ, Bool, List, [], refl, sym, arith, inl, inr, length}
 use Rattle.std.proofs.lemmas.Bool.{cases_lt}
 use Rattle.sequential_winners.specs.Families.{Sequential}
 use Rattle.sequential_winners.specs.Steps.Families.{may_be_in}
