@@ -18,6 +18,7 @@ mod dominance;
 mod good;
 pub mod laws;
 mod matching;
+mod payoff;
 mod permutations;
 mod search;
 mod symmetry;

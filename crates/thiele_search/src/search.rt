@@ -22,13 +22,14 @@ ghost use Rattle.tie_walk.specs.Values.{tally_value};
 
 use crate::columns::Columns;
 use crate::dominance::Dominance;
+use crate::payoff::{FEWEST_SEATS, PAIRS_WORK, ROUND_WORK};
 use crate::thiele::ThieleSearch;
 use crate::trials::{FEW_SEATS, Uses};
 use ballot_base::{CandSet, Clones, ThieleRule, Worths};
 use row_multipliers::Node;
 use row_multipliers::multipliers::{self, Effort};
 use std::alloc::Allocator;
-use thiele_bounds::{AGAIN, HitSums, NODE, PairSearch, PriceSearch, Priced, Shape};
+use thiele_bounds::{AGAIN, HitSums, NODE, PairSearch, PriceSearch, Priced, Shape, TripleSearch};
 use tie_search::descent::{Narrowing, Plan};
 use tie_walk::Tally;
 
@@ -84,6 +85,7 @@ impl<'a, A: Allocator + Copy> ThieleSearch<'a, A> {
                 };
                 let moved = multipliers::narrowed(&search, &priced.multipliers, node, effort);
                 self.moves.note(node, &moved);
+                self.triples.work(ROUND_WORK * u64::from(moved.rounds));
                 moved.free
             }
             _ => Some(node.free),
@@ -131,10 +133,51 @@ impl<'a, A: Allocator + Copy> ThieleSearch<'a, A> {
         let is_due = is_long && node.left >= fewest_seats(self.values.rule());
         // Counting pairs takes about as long as a round over the rows.
         self.moves.work(u32::from(is_due));
+        self.triples.work(if is_due { PAIRS_WORK } else { 1 });
         if !is_due {
             return Some(node.free);
         }
         uses.note(self.by_majorants(node, least, Shape::Quadratic))
+    }
+
+    /// Like `eligible`, but where a node is entered. Triples come last, where they pay.
+    fn eligible_at_entry(&self, node: &Node, least: u128) -> Option<CandSet>
+        requires is_node { IsNode self.now.election.m node.now.set node.now.free }
+        ensures { Narrows (tally_value self.now) self.now.election.m node.now least result }
+    {
+        let free = self.eligible(node, least, NODE)?;
+        self.triple_narrowed(&Node { free, ..*node }, least)
+    }
+
+    /// Like `eligible`, but by triples, if they are worth counting.
+    fn triple_narrowed(&self, node: &Node, least: u128) -> Option<CandSet>
+        requires is_node { IsNode self.now.election.m node.now.set node.now.free }
+        ensures { Narrows (tally_value self.now) self.now.election.m node.now least result }
+    {
+        if !self.counts_pairs.get() || !self.triples.is_due(node) {
+            return Some(node.free);
+        }
+        self.triples.note(node, self.by_triples(node, least))
+    }
+
+    /// Like `eligible`, but by cubic majorants, if at least three seats are left.
+    // Not inlined: its tables take 41 KB of stack, which would lie beside the moving of multipliers.
+    #[inline(never)]
+    fn by_triples(&self, node: &Node, least: u128) -> Option<CandSet>
+        requires is_node { IsNode self.now.election.m node.now.set node.now.free }
+        ensures { Narrows (tally_value self.now) self.now.election.m node.now least result }
+    {
+        match &self.aids.sums {
+            Some(given) if node.left >= FEWEST_SEATS => {
+                let search = TripleSearch {
+                    profile: self.values.profile(),
+                    given,
+                    least,
+                };
+                search.narrowed(node)
+            }
+            _ => Some(node.free),
+        }
     }
 
     /// Whether majorants show that no completion of the set of a root reaches the value. Only `true` is certain.
@@ -222,8 +265,9 @@ impl<'a, A: Allocator + Copy> Narrowing for ThieleSearch<'a, A> {
 
     fn plan(&self, node: &Node, least: u128) -> Option<Plan> {
         self.moves.enter(node.left);
+        self.triples.enter(node.left);
         self.symmetries.enter(node.left);
-        let free = self.eligible(node, least, NODE)?;
+        let free = self.eligible_at_entry(node, least)?;
         let gains = self.gains_at(node.set, free);
         let due = least.saturating_sub(node.value);
         let eligible = gains.members_for(free, node.left, due)?;

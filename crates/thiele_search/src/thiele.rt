@@ -10,6 +10,7 @@ ghost use Rattle.thiele_search.specs.Steps.Aided.{IsAided, IsMemoryFor};
 
 use crate::columns::Columns;
 use crate::dominance::Dominance;
+use crate::payoff::Payoff;
 use crate::search::Aids;
 use crate::symmetry::Symmetries;
 use crate::trials::Uses;
@@ -84,6 +85,8 @@ pub struct ThieleSearch<'a, A: Allocator + Copy = Global> {
     pub(crate) counts_pairs: Cell<bool>,
     // Where it pays to move multipliers, over all questions so far.
     pub(crate) moves: Moves,
+    // Where it pays to count triples, over all questions so far.
+    pub(crate) triples: Payoff,
     // Permutations of the candidates that keep the election.
     pub(crate) symmetries: Symmetries,
 }
@@ -117,6 +120,7 @@ impl<'a, A: Allocator + Copy + Drop> ThieleSearch<'a, A> {
             good: CandSet::empty(),
             counts_pairs: Cell::new(false),
             moves: Moves::new(profile.rows().div_ceil(rows_per_visit(rule)) as u64),
+            triples: Payoff::new(profile.rows()),
             symmetries: Symmetries::none(),
         };
         let good = search.grown(k);
