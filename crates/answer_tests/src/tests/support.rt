@@ -275,6 +275,10 @@ impl<'a, S: Searchable> Searchable for CountedSearch<'a, S> {
         }
         self.search.tied(k)
     }
+
+    fn completions(&self, node: &Node, least: u128) -> Option<Tied> {
+        self.search.completions(node, least)
+    }
 }
 
 /// A tally that hands on only its number of candidates, its values and its bounds, and counts the calls of the last
