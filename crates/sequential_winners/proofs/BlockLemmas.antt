@@ -12,6 +12,7 @@ use Rattle.sequential_winners.specs.Clones.{without_clones}
 use Rattle.sequential_winners.specs.Families.{Sequential}
 use Rattle.sequential_winners.specs.Steps.Families.{may_be_in, IsBlock}
 use Rattle.sequential_winners.specs.Steps.Levels.{AreFamilies}
+use Rattle.sequential_winners.specs.declared.families.Block.{Block}
 use Rattle.sequential_winners.proofs.AloneLemmas.{most-lacks, least-lacks}
 use Rattle.sequential_winners.proofs.Lists.{all-fails, some-fails}
 use Rattle.sequential_winners.proofs.PairLemmas.{pairs-end, pairs-more}
@@ -36,28 +37,28 @@ module _ (s : Sequential) (leasts mosts : List (List ℕ)) (families : AreFamili
   pub most-up : (i : ℕ) → i < length leasts → IsIncreasing 1 s.election.m (get_or mosts i [])
   most-up i inside = All-from_recursion (λ x. IsIncreasing 1 s.election.m x) mosts families.most_sets i [] (omega (arith, inside, families.paired))
 
-  module _ (c : ℕ) (set : List ℕ) (within : c ≤ s.election.m) (up : IsIncreasing 1 c set) (start : ℕ) (block : List ℕ × List ℕ) (is-block : IsBlock leasts mosts start block) (i : ℕ) (from : start ≤ i) (before : i < start + 64) (inside : i < length leasts) where
+  module _ (c : ℕ) (set : List ℕ) (within : c ≤ s.election.m) (up : IsIncreasing 1 c set) (start : ℕ) (block : Block) (is-block : IsBlock leasts mosts start block) (i : ℕ) (from : start ≤ i) (before : i < start + 64) (inside : i < length leasts) where
     abbrev alone : List ℕ
     alone = without_clones s.election.m s.election.rows
 
-    pub most-skips : includes block.1 (common_members set alone) ≡ false → may_be_in s.election.m s.election.rows c set (s.k - length set) (get_or leasts i [], get_or mosts i []) ≡ false
+    pub most-skips : includes block.in_some (common_members set alone) ≡ false → may_be_in s.election.m s.election.rows c set (s.k - length set) (get_or leasts i [], get_or mosts i []) ≡ false
     most-skips lacks =
         let asked = common_members set alone in
-        let x = some-fails (has_member block.1) asked lacks in
+        let x = some-fails (has_member block.in_some) asked lacks in
         most-lacks s.election.m s.election.rows c set (s.k - length set) (get_or leasts i [], get_or mosts i []) within up (least-up i inside) (most-up i inside)
         (all-fails (has_member (get_or mosts i [])) asked x.0 x.1 (elim (cases_Bool (has_member (get_or mosts i []) x.0)) [
-          | inl has ↦ absurd (both_ways (has_member block.1 x.0) x.2 ((is-block i from before inside x.0).1 has))
+          | inl has ↦ absurd (both_ways (has_member block.in_some x.0) x.2 ((is-block i from before inside x.0).1 has))
           | inr none ↦ none
         ]))
 
-    pub least-skips : includes set (members_upto (common_members block.0 alone) c) ≡ false → may_be_in s.election.m s.election.rows c set (s.k - length set) (get_or leasts i [], get_or mosts i []) ≡ false
+    pub least-skips : includes set (members_upto (common_members block.in_all alone) c) ≡ false → may_be_in s.election.m s.election.rows c set (s.k - length set) (get_or leasts i [], get_or mosts i []) ≡ false
     least-skips lacks =
         let least = get_or leasts i [] in
-        let asked = common_members block.0 alone in
+        let asked = common_members block.in_all alone in
         let own = common_members least alone in
         let x = some-fails (has_member set) (members_upto asked c) lacks in
         let parts = and_parts (nat_le x.0 c) (has_member asked x.0) (sym (has_member-filter (λ n. nat_le n c) asked x.0) ∙ x.1) in
-        let both = and_parts (has_member alone x.0) (has_member block.0 x.0) (sym (has_member-filter (has_member alone) block.0 x.0) ∙ parts.1) in
+        let both = and_parts (has_member alone x.0) (has_member block.in_all x.0) (sym (has_member-filter (has_member alone) block.in_all x.0) ∙ parts.1) in
         let mine : has_member own x.0 ≡ true = has_member-filter (has_member alone) least x.0 ∙ and_from (has_member alone x.0) (has_member least x.0) both.0 ((is-block i from before inside x.0).0 both.1) in
         let here : has_member (members_upto own c) x.0 ≡ true = has_member-filter (λ n. nat_le n c) own x.0 ∙ and_from (nat_le x.0 c) (has_member own x.0) parts.0 mine in
         least-lacks s.election.m s.election.rows c set (s.k - length set) (least, get_or mosts i []) within up (least-up i inside) (most-up i inside)

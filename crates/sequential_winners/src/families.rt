@@ -41,6 +41,20 @@ const FEW_VISITS: usize = 1 << 20;
 /// How many families in a row a block has.
 const BLOCK: usize = 64;
 
+/// Room for the other set of each family, and for the blocks.
+#[derive(Drop)]
+struct Room<A: Allocator + Copy> {
+    ends: Vec<CandSet, A>,
+    blocks: Vec<Block, A>,
+}
+
+/// What `BLOCK` families in a row have: all their least sets, and some of their most sets.
+#[derive(Clone, Copy)]
+struct Block {
+    in_all: CandSet,
+    in_some: CandSet,
+}
+
 /// All memory for the winners of a sequential rule, and the levels up to the first that has many sets. Contracts see
 /// the election, the rule and `k`.
 #[derive(Drop)]
@@ -49,10 +63,7 @@ pub struct FamilyMemory<'a, A: Allocator + Copy = Global> {
     k: u8,
     // The last level, with room for those to come, or `None` if a search answers each question.
     level: Option<Level<A>>,
-    // Room for the other set of each family.
-    ends: Vec<CandSet, A>,
-    // Room for the blocks of families.
-    blocks: Vec<(CandSet, CandSet), A>,
+    room: Room<A>,
     // Room for the sets that lead to nothing, if levels may have too many sets.
     dead: Option<FoundSets<A>>,
 }
@@ -96,17 +107,13 @@ impl<'a, A: Allocator + Copy + Drop> FamilyMemory<'a, A> {
             FEW_SETS.min(FEW_VISITS / profile.rows().max(1))
         };
         levels.go_on(&mut level, total, most)?;
-        let mut ends = Vec::new(alloc);
-        let mut blocks = Vec::new(alloc);
         if level.size == total {
-            ends.reserve_exact(level.sets.len())?;
-            blocks.reserve_exact(level.sets.len() / BLOCK + 1)?;
+            let room = Room::of(alloc, level.sets.len())?;
             return Ok(FamilyMemory {
                 levels,
                 k,
                 level: Some(level),
-                ends,
-                blocks,
+                room,
                 dead: None,
             });
         }
@@ -114,15 +121,13 @@ impl<'a, A: Allocator + Copy + Drop> FamilyMemory<'a, A> {
             return FamilyMemory::for_searches(alloc, profile, rule, k);
         }
         level.reserve(MOST_SETS)?;
-        ends.reserve_exact(MOST_SETS)?;
-        blocks.reserve_exact(MOST_SETS / BLOCK + 1)?;
+        let room = Room::of(alloc, MOST_SETS)?;
         let dead = HashSet::with_capacity(alloc, MOST_DEAD)?;
         Ok(FamilyMemory {
             levels,
             k,
             level: Some(level),
-            ends,
-            blocks,
+            room,
             dead: Some(dead),
         })
     }
@@ -144,10 +149,23 @@ impl<'a, A: Allocator + Copy + Drop> FamilyMemory<'a, A> {
             levels: Levels::new(profile, rule),
             k,
             level: None,
-            ends: Vec::new(alloc),
-            blocks: Vec::new(alloc),
+            room: Room {
+                ends: Vec::new(alloc),
+                blocks: Vec::new(alloc),
+            },
             dead: Some(dead),
         })
+    }
+}
+
+impl<A: Allocator + Copy> Room<A> {
+    /// Room for this many families.
+    fn of(alloc: A, families: usize) -> Result<Room<A>, AllocError> {
+        let mut ends = Vec::new(alloc);
+        ends.reserve_exact(families)?;
+        let mut blocks = Vec::new(alloc);
+        blocks.reserve_exact(families / BLOCK + 1)?;
+        Ok(Room { ends, blocks })
     }
 }
 
@@ -175,8 +193,8 @@ pub struct Families<'a, A: Allocator + Copy = Global> {
 struct Stored<A: Allocator + Copy> {
     leasts: Vec<CandSet, A>,
     mosts: Vec<CandSet, A>,
-    /// For each `BLOCK` families in a row, what all their least sets have, and what some of their most sets has.
-    blocks: Vec<(CandSet, CandSet), A>,
+    /// One for each `BLOCK` families in a row.
+    blocks: Vec<Block, A>,
 }
 
 impl<'a, A: Allocator + Copy> Model for Families<'a, A> {
@@ -205,13 +223,12 @@ impl<'a, A: Allocator + Copy + Drop> Families<'a, A> {
             levels,
             k,
             level,
-            ends,
-            blocks,
+            room,
             dead,
         } = memory;
         let alone = levels.alone();
         let stored = match level {
-            Some(level) => Stored::of(&levels, k, level, (ends, blocks)).unwrap_or(None),
+            Some(level) => Stored::of(&levels, k, level, room).unwrap_or(None),
             None => None,
         };
         Families {
@@ -231,7 +248,7 @@ impl<A: Allocator + Copy + Drop> Stored<A> {
         levels: &Levels<'_, A>,
         k: u8,
         mut level: Level<A>,
-        room: (Vec<CandSet, A>, Vec<(CandSet, CandSet), A>),
+        room: Room<A>,
     ) -> Result<Option<Stored<A>>, AllocError>
         requires fits { k ≤ levels.now.choices.profile.now.m }
         requires level { AreReached levels.now.choices.rule levels.now.choices.profile.now
@@ -240,7 +257,10 @@ impl<A: Allocator + Copy + Drop> Stored<A> {
             levels.now.choices.profile.now k s.leasts.items s.mosts.items
             × AreBlocks s.leasts.items s.mosts.items s.blocks.items)) }
     {
-        let (mut ends, mut blocks) = room;
+        let Room {
+            mut ends,
+            mut blocks,
+        } = room;
         let Choices { profile, rule, .. } = &levels.choices;
         let total = rule.choices(profile.m(), k);
         levels.go_on(&mut level, total, MOST_SETS)?;
@@ -274,7 +294,7 @@ impl<A: Allocator + Copy + Drop> Stored<A> {
 fn put_blocks<A: Allocator + Copy>(
     leasts: &[CandSet],
     mosts: &[CandSet],
-    blocks: &mut Vec<(CandSet, CandSet), A>,
+    blocks: &mut Vec<Block, A>,
 ) -> Result<(), AllocError>
     requires { length mosts.now ≡ length leasts.now }
     ensures { OnOk result (AreBlocks leasts.now mosts.now blocks.new.items) }
@@ -287,17 +307,17 @@ fn put_blocks<A: Allocator + Copy>(
 }
 
 /// The block of the families from a place on.
-fn block_from(leasts: &[CandSet], mosts: &[CandSet], start: usize) -> (CandSet, CandSet)
+fn block_from(leasts: &[CandSet], mosts: &[CandSet], start: usize) -> Block
     requires { length mosts.now ≡ length leasts.now }
     ensures { IsBlock leasts.now mosts.now start result }
 {
-    let mut common = CandSet::all(MOST_CANDIDATES);
-    let mut all = CandSet::empty();
+    let mut in_all = CandSet::all(MOST_CANDIDATES);
+    let mut in_some = CandSet::empty();
     for i in start..start.saturating_add(BLOCK).min(leasts.len()) {
-        common = common.common(leasts[i]);
-        all = all.union(mosts[i]);
+        in_all = in_all.common(leasts[i]);
+        in_some = in_some.union(mosts[i]);
     }
-    (common, all)
+    Block { in_all, in_some }
 }
 
 impl<'a, A: Allocator + Copy> Families<'a, A> {
@@ -367,9 +387,9 @@ impl<'a, A: Allocator + Copy> Families<'a, A> {
         requires inside { block < length stored.now.blocks.items }
         ensures { IsBlockAnswer self.now c set stored.now.leasts.items stored.now.mosts.items block result }
     {
-        let (common, all) = stored.blocks[block];
-        if !all.includes(set.common(self.alone))
-            || !set.includes(common.common(self.alone).upto(c))
+        let Block { in_all, in_some } = stored.blocks[block];
+        if !in_some.includes(set.common(self.alone))
+            || !set.includes(in_all.common(self.alone).upto(c))
         {
             return false;
         }

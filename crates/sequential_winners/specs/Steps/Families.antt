@@ -8,6 +8,7 @@ use Rattle.tie_walk.specs.Winners.{Winning}
 use Rattle.sequential_winners.specs.Clones.{is_between}
 use Rattle.sequential_winners.specs.Families.{Sequential}
 use Rattle.sequential_winners.specs.Steps.Tables.{completed}
+use Rattle.sequential_winners.specs.declared.families.Block.{Block}
 
 -- Whether the family has a committee of the set and of `left` of the candidates after c. At most `left` of them are
 -- needed for as many of each class as its least set has, and at least `left` are there for as many as its most set has.
@@ -24,18 +25,21 @@ pub record KeepsElection (e : Election) (k : ℕ) : Type 0 where
   pub most : e.m ≤ most_candidates
   pub fits : k ≤ e.m
 
--- of the 64 families from a place on, each least set has what the first set has, and the second has what each most set
--- has
-abbrev pub IsBlock : List (List ℕ) → List (List ℕ) → ℕ → List ℕ × List ℕ → Type 0
+-- of the 64 families from a place on, each least set has what the block has in all, and it has in some what each most
+-- set has
+abbrev pub IsBlock : List (List ℕ) → List (List ℕ) → ℕ → Block → Type 0
 IsBlock leasts mosts start block =
     (i : ℕ) → start ≤ i → i < start + 64 → i < length leasts → (n : ℕ)
-    → (has_member block.0 n ≡ true → has_member (slice_index_or leasts i []) n ≡ true)
-    × (has_member (slice_index_or mosts i []) n ≡ true → has_member block.1 n ≡ true)
+    → (has_member block.in_all n ≡ true → has_member (slice_index_or leasts i []) n ≡ true)
+    × (has_member (slice_index_or mosts i []) n ≡ true → has_member block.in_some n ≡ true)
+
+abbrev pub no_block : Block
+no_block = record { in_all = []; in_some = [] }
 
 -- each 64 families in a row have a block
-pub record AreBlocks (leasts mosts : List (List ℕ)) (blocks : List (List ℕ × List ℕ)) : Type 0 where
+pub record AreBlocks (leasts mosts : List (List ℕ)) (blocks : List Block) : Type 0 where
   pub enough : length leasts ≤ 64 * length blocks
-  pub each : (b : ℕ) → b < length blocks → IsBlock leasts mosts (b * 64) (slice_index_or blocks b ([], []))
+  pub each : (b : ℕ) → b < length blocks → IsBlock leasts mosts (b * 64) (slice_index_or blocks b no_block)
 
 -- true only if some family has a committee that is asked for, and false only if none of the block has one
 abbrev pub IsBlockAnswer : Sequential → ℕ → List ℕ → List (List ℕ) → List (List ℕ) → ℕ → Bool → Type 0

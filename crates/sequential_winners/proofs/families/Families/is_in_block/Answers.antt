@@ -4,7 +4,8 @@ use Rattle.std.proofs.lemmas.List.{get_or_default}
 use Rattle.ballot_base.specs.CandSet.{common_members, includes, members_upto}
 use Rattle.sequential_winners.specs.Clones.{without_clones}
 use Rattle.sequential_winners.specs.Families.{Sequential}
-use Rattle.sequential_winners.specs.Steps.Families.{may_be_in, IsBlock}
+use Rattle.sequential_winners.specs.Steps.Families.{may_be_in, IsBlock, no_block}
+use Rattle.sequential_winners.specs.declared.families.Block.{Block}
 use Rattle.sequential_winners.proofs.BlockLemmas.{least-skips, most-skips}
 use Rattle.sequential_winners.proofs.PairLemmas.{pairs-pass}
 use Rattle.sequential_winners.proofs.families.Families.is_in_block.Goals as goal
@@ -17,20 +18,20 @@ returns-then-not-includes g c =
     let leasts = c.args.stored.now.leasts.items in
     let mosts = c.args.stored.now.mosts.items in
     let set = c.args.set in
-    let block : List ℕ × List ℕ = c.index.result.now in
+    let block : Block = c.index.result.now in
     let alone-is : c.self.inside.alone ≡ without_clones e.m e.rows = c.self.invariant.2 ∙ ap (λ (t : Sequential). without_clones t.election.m t.election.rows) c.self.view_is in
     let is-block : IsBlock leasts mosts (c.args.block * 64) block =
-    subst (IsBlock leasts mosts (c.args.block * 64)) (get_or_default c.args.stored.now.blocks.items c.args.block ([], []) block c.requires.inside ∙ sym c.index.ensures) (c.requires.blocks.each c.args.block c.requires.inside) in
+    subst (IsBlock leasts mosts (c.args.block * 64)) (get_or_default c.args.stored.now.blocks.items c.args.block no_block block c.requires.inside ∙ sym c.index.ensures) (c.requires.blocks.each c.args.block c.requires.inside) in
     elim c.then-not-includes.branch [
       | then-not-includes-via-then-not-includes w ↦ (
         λ is. absurd (let wrong : false ≡ true = is in cc),
         λ _ i from before inside. most-skips s leasts mosts c.requires.families c.args.c set c.requires.within c.requires.set (c.args.block * 64) block is-block i from before inside
-            (sym (c.includes.ensures ∙ ap (includes block.1) (c.common.ensures ∙ ap (common_members set) alone-is)) ∙ w.if-not-includes.true),
+            (sym (c.includes.ensures ∙ ap (includes block.in_some) (c.common.ensures ∙ ap (common_members set) alone-is)) ∙ w.if-not-includes.true),
       )
       | then-not-includes-via-else-not-includes+then-not-includes-2 w ↦ (
         λ is. absurd (let wrong : false ≡ true = is in cc),
         λ _ i from before inside. least-skips s leasts mosts c.requires.families c.args.c set c.requires.within c.requires.set (c.args.block * 64) block is-block i from before inside
-            (sym (w.includes-else-not-includes.ensures ∙ ap (includes set) (w.upto.ensures ∙ ap (λ l. members_upto l c.args.c) (w.common-else-not-includes.ensures ∙ ap (common_members block.0) alone-is))) ∙ w.if-not-includes-2.true),
+            (sym (w.includes-else-not-includes.ensures ∙ ap (includes set) (w.upto.ensures ∙ ap (λ l. members_upto l c.args.c) (w.common-else-not-includes.ensures ∙ ap (common_members block.in_all) alone-is))) ∙ w.if-not-includes-2.true),
       )
     ]
 
