@@ -6,7 +6,7 @@
 use std::cell::Cell;
 
 /// The number of sets that may be entered in vain, however short the search was so far. Any number works.
-const SHORT_LIST: u64 = 2000;
+const SHORT_LIST: u64 = 200;
 
 /// Of all sets that were entered so far, one in this number may be entered in vain. With 3, 44 voters with 34 seats
 /// took a tenth longer, and with 8, 4,000 voters took 1.3 times as long. Any number works.

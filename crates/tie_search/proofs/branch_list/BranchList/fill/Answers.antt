@@ -16,7 +16,7 @@ returns-in-Some g c =
     let value = g.S.Tally.value_of oracle.search in
     let class = g.S.WithClones.class_of oracle.search in
     let m = g.S.Tally.candidates oracle.search in
-    let made : BranchList = record { within = c.args.branch.now; tied = c.in-Some.tied; most_left = 0; due = 0; found = 0 } in
+    let made : BranchList = record { within = c.args.branch.now; tied = c.in-Some.tied; most_left = 0; due = 0; found = 0; questions = 0 } in
     record {
       listed = same-within value class m oracle.k made c.note_found.new.self c.note_found.ensures.within c.note_found.ensures.tied
           (all-within value class m oracle.k made c.value.result (oracle.k - c.len.result) c.requires.branch (omega (arith, c.len.ensures.count, c.requires.branch.size)) (rw c.requires.knows.best_is at c.in-Some.ensures));
