@@ -42,6 +42,15 @@ impl Model for CandSet {
     ghost inverse_ok = { λ set h. ap (λ (n : ℕ). record { bits = n }) (bits_of_members set.bits h) };
 }
 
+/// The empty set.
+impl Default for CandSet {
+    ghost is_default = { λ set. set ≡ [] };
+
+    fn default() -> CandSet {
+        CandSet::empty()
+    }
+}
+
 impl PartialEq for CandSet {
     ghost eq = { bytes_eq };
 

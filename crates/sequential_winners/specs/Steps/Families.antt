@@ -25,28 +25,34 @@ pub record KeepsElection (e : Election) (k : ℕ) : Type 0 where
   pub most : e.m ≤ most_candidates
   pub fits : k ≤ e.m
 
--- of the 64 families from a place on, each least set has what the block has in all, and it has in some what each most
--- set has
+-- the number of families that a block is of
+abbrev pub block_size : ℕ
+block_size = 64
+
+-- Of the families of a block, those from a place on, each least set has what the block has in all, and it has in some
+-- what each most set has.
 abbrev pub IsBlock : List (List ℕ) → List (List ℕ) → ℕ → Block → Type 0
 IsBlock leasts mosts start block =
-    (i : ℕ) → start ≤ i → i < start + 64 → i < length leasts → (n : ℕ)
+    (i : ℕ) → start ≤ i → i < start + block_size → i < length leasts → (n : ℕ)
     → (has_member block.in_all n ≡ true → has_member (slice_index_or leasts i []) n ≡ true)
     × (has_member (slice_index_or mosts i []) n ≡ true → has_member block.in_some n ≡ true)
 
 abbrev pub no_block : Block
 no_block = record { in_all = []; in_some = [] }
 
--- each 64 families in a row have a block
+-- each `block_size` families in a row have a block
 pub record AreBlocks (leasts mosts : List (List ℕ)) (blocks : List Block) : Type 0 where
-  pub enough : length leasts ≤ 64 * length blocks
-  pub each : (b : ℕ) → b < length blocks → IsBlock leasts mosts (b * 64) (slice_index_or blocks b no_block)
+  pub enough : length leasts ≤ block_size * length blocks
+  pub each : (b : ℕ) → b < length blocks
+      → IsBlock leasts mosts (b * block_size) (slice_index_or blocks b no_block)
 
 -- true only if some family has a committee that is asked for, and false only if none of the block has one
 abbrev pub IsBlockAnswer : Sequential → ℕ → List ℕ → List (List ℕ) → List (List ℕ) → ℕ → Bool → Type 0
 IsBlockAnswer s c set leasts mosts block result =
     let p = may_be_in s.election.m s.election.rows c set (s.k - length set) in
     (result ≡ true → list_any p (zip leasts mosts) ≡ true)
-    × (result ≡ false → (i : ℕ) → block * 64 ≤ i → i < block * 64 + 64 → i < length leasts
+    × (result ≡ false → (i : ℕ) → block * block_size ≤ i → i < block * block_size + block_size
+    → i < length leasts
     → p (slice_index_or leasts i [], slice_index_or mosts i []) ≡ false)
 
 -- whether each candidate is its only clone
