@@ -17,7 +17,7 @@ use std::alloc::{AllocError, Allocator, Global};
 use std::cell::Cell;
 use std::marker::Model;
 use tie_search::descent::GivenUp;
-use tie_search::{Searchable, Tied, WithClones, descent};
+use tie_search::{Committees, Searchable, Tied, WithClones, descent};
 use tie_walk::{MinimaxTally, Tally};
 
 /// A search among the committees of a profile under minimax approval voting. A committee's value is the number of
@@ -157,7 +157,7 @@ impl<'a, A: Allocator + Copy> Searchable for MinimaxSearch<'a, A> {
         None
     }
 
-    fn completions(&self, node: &Node, least: u128) -> Option<Tied> {
+    fn completions(&self, node: &Node, least: u128) -> Option<Committees> {
         self.rows.begin(node.left);
         let sets = self.lists.begin(least);
         let completions = descent::list_completions(self, *node, least, sets);

@@ -8,7 +8,7 @@
 //!
 //! If several seats are left and several candidates are to be tried, all needs are also added up, each with a weight
 //! (module `weights`).
-ghost use Rattle.std.specs.Prelude.{◌≤◌, ⊤};
+ghost use Rattle.std.specs.Prelude.{◌≡◌, ◌⊎◌, ◌≤◌, ⊤};
 ghost use Rattle.row_multipliers.specs.Completions.{IsNode};
 ghost use Rattle.minimax_search.specs.Steps.Search.{Branches, IsNearPlan};
 
@@ -93,6 +93,44 @@ impl<A: Allocator + Copy> Narrowing for MinimaxSearch<'_, A> {
     }
 }
 
+/// The free candidates on the tightest ballot so far. Any ballot that needs a hit works; a tight one leaves few
+/// candidates to try.
+#[derive(Clone, Copy)]
+struct Tightest {
+    open: CandSet,
+    /// How many of them the ballot can spare.
+    spare: u8,
+    needed: u8,
+}
+
+impl Tightest {
+    /// No ballot yet: all candidates are open.
+    fn none(open: CandSet) -> Tightest
+        ensures { result.open ≡ open }
+    {
+        Tightest {
+            open,
+            spare: u8::MAX,
+            needed: 0,
+        }
+    }
+
+    /// The tighter one of this and another ballot, which needs so many of its open candidates.
+    fn or(self, open: CandSet, needed: u8) -> Tightest
+        ensures { (result.open ≡ open) ⊎ (result.open ≡ self.open) }
+    {
+        let spare = open.len().saturating_sub(needed);
+        if spare < self.spare || spare == self.spare && needed > self.needed {
+            return Tightest {
+                open,
+                spare,
+                needed,
+            };
+        }
+        self
+    }
+}
+
 impl<A: Allocator + Copy> MinimaxSearch<'_, A> {
     /// Two sets: branching candidates, at least one of which must join so that no ballot is farther than `most`; and
     /// the candidates that are still eligible. Returns `None` if some ballot needs more hits than it can have.
@@ -104,11 +142,9 @@ impl<A: Allocator + Copy> MinimaxSearch<'_, A> {
         if node.free.len() < node.left {
             return None;
         }
-        let mut choices = node.free;
+        let mut tightest = Tightest::none(node.free);
         let mut rest = node.free;
         let mut size = rest.len();
-        let mut fewest = u8::MAX;
-        let mut most_needed = 0;
         let rows = self.profile.rows();
         let mut matter = self.rows.count_above(node.left);
         let mut place: usize = 0;
@@ -136,17 +172,11 @@ impl<A: Allocator + Copy> MinimaxSearch<'_, A> {
                 rest = open;
                 size = open.len();
             }
-            let spare = open.len() - needed;
-            // Any ballot that needs a hit works. A tight one leaves few candidates to try.
-            if spare < fewest || spare == fewest && needed > most_needed {
-                choices = open;
-                fewest = spare;
-                most_needed = needed;
-            }
+            tightest = tightest.or(open, needed);
             place = place.saturating_add(1);
         }
         self.rows.note(node.left, matter);
-        Some((choices, rest))
+        Some((tightest.open, rest))
     }
 
     /// Enters a node with `left` seats left, and chooses weights. The `choices` are to be tried.

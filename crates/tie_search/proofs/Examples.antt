@@ -10,7 +10,7 @@ use Rattle.tie_search.specs.Alike.{AreClasses, Becomes, done, step}
 use Rattle.tie_search.specs.Asked.{Asked, IsNextAsked, beginnings, begins_some, most_questions}
 use Rattle.tie_search.specs.Steps.Branches.{AreStacked, IsBranch, branches_after, completes, entries, first_branches, left_by, longer_beginnings, to_enter, winners_of}
 use Rattle.tie_search.specs.declared.branch.Branch.{Branch}
-use Rattle.tie_search.specs.Tied.{AreBest, AreDistinct, AreTied, IsAmong, IsBest}
+use Rattle.tie_search.specs.Tied.{AreAllBest, AreDistinct, AreTooMany, IsAmong, IsBest}
 
 -- ---- values of two of three candidates, where one voter approves 1 and 2, and one approves 3: with 1 and 2 the second
 -- voter is at the distance 3, with 3 in the committee no voter is farther than 2
@@ -49,13 +49,12 @@ only_three (x ∷ y ∷ committee) best = absurd (omega (arith, best.size))
 abbrev alone : ℕ → List ℕ
 alone c = c ∷ []
 
-three_is_listed : AreBest sum alone 3 1 (record { committees = (3 ∷ []) ∷ []; len = 1; are_all = true })
+three_is_listed : AreAllBest sum alone 3 1 ((3 ∷ []) ∷ [])
 unfolding lists_of
 three_is_listed = record {
   some = lit≤ tt;
-  few = lit≤ tt;
   each = λ committee among. listed committee among.0 among.1 among.2;
-  all = λ yes committee best. (3 ∷ [], (0, lit< tt, refl), subst (Becomes 3 alone (3 ∷ [])) (sym (only_three committee best)) done);
+  all = λ committee best. (3 ∷ [], (0, lit< tt, refl), subst (Becomes 3 alone (3 ∷ [])) (sym (only_three committee best)) done);
 }
   where
     listed : (committee : List ℕ) (i : ℕ) → i < 1 → slice_index_or ((3 ∷ []) ∷ []) i [] ≡ committee → IsBest sum 3 1 committee
@@ -63,28 +62,19 @@ three_is_listed = record {
     listed committee (suc i) inside is = absurd (omega (arith, inside))
 
 -- the list has each committee that ties, and none twice
-three_has_no_equal : AreTied sum alone 3 1 (record { committees = (3 ∷ []) ∷ []; len = 1; are_all = true })
-three_has_no_equal = record {
-  best = three_is_listed;
-  full = λ no. absurd cc;
-  more = λ no. absurd cc;
-  distinct = λ i j before inside same. omega (arith, before, inside);
-}
+three_has_no_equal : AreDistinct ((3 ∷ []) ∷ [])
+three_has_no_equal i j before inside same = omega (arith, before, inside)
 
 -- a committee is listed twice
-three_is_twice : AreDistinct ((3 ∷ []) ∷ (3 ∷ []) ∷ []) 2 → ⊥
+three_is_twice : AreDistinct ((3 ∷ []) ∷ (3 ∷ []) ∷ []) → ⊥
 three_is_twice distinct = distinct 0 1 (lit< tt) (lit< tt) refl
 
--- a list of one that does not say that it has all is not full
-one_is_not_full : AreTied sum alone 3 1 (record { committees = (3 ∷ []) ∷ []; len = 1; are_all = false }) → ⊥
-one_is_not_full tied = let full : 1 ≡ 256 = tied.full refl in omega (arith, full)
-
--- a list with the committee of 3 leaves out none that ties, and has to say so
-none_is_left_out : (committees : List (List ℕ)) (len : ℕ) → IsAmong committees len (3 ∷ [])
-    → AreTied sum alone 3 1 (record { committees = committees; len = len; are_all = false }) → ⊥
-none_is_left_out committees len among tied =
-    let other = tied.more refl in
-    other.2 (subst (IsAmong committees len) (sym (only_three other.0 other.1)) among)
+-- only the committee of 3 is the best, so there are not too many
+three_is_all : AreTooMany sum 3 1 → ⊥
+three_is_all many =
+    let same : (i : ℕ) → i < 256 → slice_index_or many.committees i [] ≡ 3 ∷ [] =
+    λ i inside. only_three (slice_index_or many.committees i []) (many.each (slice_index_or many.committees i []) (i, subst (λ n. i < n) (sym many.full) inside, refl)) in
+    many.distinct 0 1 (lit< tt) (subst (λ n. 1 < n) (sym many.full) (lit< tt)) (same 0 (lit< tt) ∙ sym (same 1 (lit< tt)))
 
 abbrev one_and_two : List (List ℕ)
 one_and_two = (1 ∷ []) ∷ (2 ∷ []) ∷ []
@@ -99,19 +89,16 @@ of_two P one two (suc (suc (suc x)) ∷ []) best = absurd (omega (arith, best.ca
 of_two P one two (x ∷ y ∷ committee) best = absurd (omega (arith, best.size))
 
 -- where all values are the same, both committees of one tie
-two_tie : AreTied (λ set. 0) alone 2 1 (record { committees = one_and_two; len = 2; are_all = true })
+two_tie : AreAllBest (λ set. 0) alone 2 1 one_and_two × AreDistinct one_and_two
 unfolding lists_of
-two_tie = record {
-  best = record {
+two_tie = (
+  record {
     some = lit≤ tt;
-    few = lit≤ tt;
     each = λ committee among. listed committee among.0 among.1 among.2;
-    all = λ yes committee best. (committee, of_two (IsAmong one_and_two 2) (0, lit< tt, refl) (1, lit< tt, refl) committee best, done);
-  };
-  full = λ no. absurd cc;
-  more = λ no. absurd cc;
-  distinct = apart;
-}
+    all = λ committee best. (committee, of_two (IsAmong one_and_two) (0, lit< tt, refl) (1, lit< tt, refl) committee best, done);
+  },
+  apart,
+)
   where
     one : IsBest (λ set. 0) 2 1 (1 ∷ [])
     one = record { candidates = (lit≤ tt, lit≤ tt, tt); size = refl; best = refl }
@@ -150,18 +137,12 @@ two_becomes_one : Becomes 2 both (1 ∷ []) (2 ∷ [])
 two_becomes_one = step (2 ∷ []) 1 2 (lit≤ tt, lit≤ tt, tt) (lit≤ tt) (lit≤ tt) refl refl refl done
 
 -- so a list of the committee of 1 alone has all that tie
-one_has_all : AreTied (λ set. 0) both 2 1 (record { committees = (1 ∷ []) ∷ []; len = 1; are_all = true })
+one_has_all : AreAllBest (λ set. 0) both 2 1 ((1 ∷ []) ∷ [])
 unfolding lists_of
 one_has_all = record {
-  best = record {
-    some = lit≤ tt;
-    few = lit≤ tt;
-    each = λ committee among. listed committee among.0 among.1 among.2;
-    all = λ yes committee best. (1 ∷ [], (0, lit< tt, refl), of_two (Becomes 2 both (1 ∷ [])) done two_becomes_one committee best);
-  };
-  full = λ no. absurd cc;
-  more = λ no. absurd cc;
-  distinct = λ i j before inside same. omega (arith, before, inside);
+  some = lit≤ tt;
+  each = λ committee among. listed committee among.0 among.1 among.2;
+  all = λ committee best. (1 ∷ [], (0, lit< tt, refl), of_two (Becomes 2 both (1 ∷ [])) done two_becomes_one committee best);
 }
   where
     listed : (committee : List ℕ) (i : ℕ) → i < 1 → slice_index_or ((1 ∷ []) ∷ []) i [] ≡ committee → IsBest (λ set. 0) 2 1 committee

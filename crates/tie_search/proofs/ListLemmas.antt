@@ -8,14 +8,12 @@ use Rattle.tie_search.specs.Tied.{AreReaching, IsAmong, IsBest}
 use Rattle.tie_search.specs.Steps.Branches.{AreListedWithin, IsBarren, IsBranch, IsUnsuited, IsWinnerOf}
 use Rattle.tie_search.specs.declared.branch.Branch.{Branch}
 use Rattle.tie_search.specs.declared.branch_list.BranchList.{BranchList}
-use Rattle.tie_search.specs.declared.found.Tied.{Tied}
 use Rattle.tie_search.proofs.BranchLemmas.{completion-from, few-barren, winner-from}
 
 -- no committee completes a branch of no candidates
-pub nothing-within : (value : List ℕ → ℕ) (class : ℕ → List ℕ) (m k : ℕ) (list : BranchList) → 1 ≤ k → list.within.set ≡ [] → list.within.free ≡ [] → list.tied.len ≡ 0
+pub nothing-within : (value : List ℕ → ℕ) (class : ℕ → List ℕ) (m k : ℕ) (list : BranchList) → 1 ≤ k → list.within.set ≡ [] → list.within.free ≡ [] → length list.winners.items ≡ 0
     → AreListedWithin value class m k list
 nothing-within value class m k list some set free none = record {
-  few = omega (arith, none);
   each = λ committee listed. absurd (omega (arith, listed.1, none));
   all = λ committee wins. absurd (few-barren value m k list.within empty (omega (arith, some, ap length set, ap length free)) committee wins);
 }
@@ -25,28 +23,27 @@ nothing-within value class m k list some set free none = record {
 
 -- the completions of its node that have the highest value are the winners that complete the branch
 pub all-within : (value : List ℕ → ℕ) (class : ℕ → List ℕ) (m k : ℕ) (list : BranchList) (v left : ℕ) → IsBranch m k list.within → length list.within.set + left ≡ k
-    → AreReaching value class m (record { set = list.within.set; value = v; free = list.within.free; left = left }) (best_value value m k) list.tied → AreListedWithin value class m k list
+    → AreReaching value class m (record { set = list.within.set; value = v; free = list.within.free; left = left }) (best_value value m k) list.winners.items → AreListedWithin value class m k list
 all-within value class m k list v left is size all = record {
-  few = all.few;
   each = λ committee listed. let reaching = all.each committee listed in (winner-from value m k list.within is left committee size reaching.completes reaching.reaches).best;
   all = λ committee wins. all.all committee (record { completes = completion-from value m k list.within is left committee size wins; reaches = omega (arith, wins.best.best) });
 }
 
 -- a list stays right if only its counts change
-pub same-within : (value : List ℕ → ℕ) (class : ℕ → List ℕ) (m k : ℕ) (was now : BranchList) → now.within ≡ was.within → now.tied ≡ was.tied → AreListedWithin value class m k was
+pub same-within : (value : List ℕ → ℕ) (class : ℕ → List ℕ) (m k : ℕ) (was now : BranchList) → now.within ≡ was.within → now.winners ≡ was.winners → AreListedWithin value class m k was
     → AreListedWithin value class m k now
-same-within value class m k was now within tied is = record { few = rw tied is.few; each = rw tied is.each; all = rw (within, tied) is.all }
+same-within value class m k was now within winners is = record { each = rw winners is.each; all = rw (within, winners) is.all }
 
 -- A committee with the highest value that completes the branch becomes a listed one. So if none of these may become one
 -- that completes it, there is none.
-pub guess-among : (value : List ℕ → ℕ) (class : ℕ → List ℕ) (m k : ℕ) (branch : Branch) (classes : List (List ℕ)) (tied : Tied) → IsBranch m k branch → HasClasses m class classes
-    → ((c : ℕ) → 1 ≤ c → c ≤ m → IsIncreasing 1 m (class c)) → AreClasses m class → ((committee : List ℕ) → IsAmong tied.committees tied.len committee → IsBest value m k committee)
-    → ((committee : List ℕ) → IsWinnerOf value m k branch committee → (other : List ℕ) × IsAmong tied.committees tied.len other × Becomes m class other committee)
-    → (answer : Option (List ℕ)) → MatchOption answer ((i : ℕ) → i < tied.len → IsUnsuited branch classes (slice_index_or tied.committees i [])) (IsAmong tied.committees tied.len)
+pub guess-among : (value : List ℕ → ℕ) (class : ℕ → List ℕ) (m k : ℕ) (branch : Branch) (classes : List (List ℕ)) (committees : List (List ℕ)) → IsBranch m k branch → HasClasses m class classes
+    → ((c : ℕ) → 1 ≤ c → c ≤ m → IsIncreasing 1 m (class c)) → AreClasses m class → ((committee : List ℕ) → IsAmong committees committee → IsBest value m k committee)
+    → ((committee : List ℕ) → IsWinnerOf value m k branch committee → (other : List ℕ) × IsAmong committees other × Becomes m class other committee)
+    → (answer : Option (List ℕ)) → MatchOption answer ((i : ℕ) → i < length committees → IsUnsuited branch classes (slice_index_or committees i [])) (IsAmong committees)
     → MatchOption answer (IsBarren value m k branch) (IsBest value m k)
-guess-among value class m k branch classes tied is table rise agree each all None unsuited = λ committee wins.
+guess-among value class m k branch classes committees is table rise agree each all None unsuited = λ committee wins.
     let like = all committee wins in
     let becomes = subst (λ l. Becomes m class l committee) (sym like.1.2) like.2 in
     let up = subst (IsIncreasing 1 m) (sym like.1.2) (each like.0 like.1).candidates in
     unsuited like.1.0 like.1.1 m k class committee is table rise agree up becomes wins.whole
-guess-among value class m k branch classes tied is table rise agree each all (Some committee) listed = each committee listed
+guess-among value class m k branch classes committees is table rise agree each all (Some committee) listed = each committee listed

@@ -1,9 +1,8 @@
 //! Branches: sets that committees may begin with, and the candidates that may still join them.
-ghost use Rattle.std.specs.Prelude.{◌≡◌, ◌<◌, ◌≤◌, ℕ, List, [], false, true, MatchOption, slice_index_or};
-ghost use Rattle.tie_search.specs.Tied.{IsAmong, most_tied};
+ghost use Rattle.std.specs.Prelude.{◌≡◌, ◌<◌, ℕ, List, [], false, true, MatchOption, length, slice_index_or};
+ghost use Rattle.tie_search.specs.Tied.{IsAmong};
 ghost use Rattle.tie_search.specs.Steps.Branches.{IsUnsuited, completes};
 
-use crate::found::Tied;
 use ballot_base::{CandSet, Clones};
 
 /// A set of candidates, and later candidates that are free to join it. A committee completes the branch if it consists
@@ -59,14 +58,12 @@ impl Branch {
     }
 
     /// A committee of a list that may become one that completes the branch, if clones take the place of members.
-    pub(crate) fn suited(&self, clones: &Clones, tied: &Tied) -> Option<CandSet>
-        requires { tied.now.len ≤ most_tied }
-        ensures { MatchOption result ((i : ℕ) → i < tied.now.len
-            → IsUnsuited self.now clones.now (slice_index_or tied.now.committees i []))
-            (IsAmong tied.now.committees tied.now.len) }
+    pub(crate) fn suited(&self, clones: &Clones, committees: &[CandSet]) -> Option<CandSet>
+        ensures { MatchOption result ((i : ℕ) → i < length committees.now
+            → IsUnsuited self.now clones.now (slice_index_or committees.now i [])) (IsAmong committees.now) }
     {
-        for i in 0..tied.len {
-            let committee = tied.committees[i];
+        for i in 0..committees.len() {
+            let committee = committees[i];
             if self.suits(clones, committee) {
                 return Some(committee);
             }

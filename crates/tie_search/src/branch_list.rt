@@ -2,13 +2,14 @@
 //!
 //! A list answers all questions below its branch; otherwise most of them take a search each. Making a list takes about
 //! the work of some questions. So larger branches are listed as long as lists are found, and smaller ones if not.
-ghost use Rattle.std.specs.Prelude.{◌≡◌, ◌+◌, ◌≤◌, []};
+ghost use Rattle.std.specs.Prelude.{◌≡◌, ◌+◌, ◌≤◌, [], length};
 ghost use Rattle.tie_search.specs.Steps.Branches.{AreListedIn, IsAnswerIn, IsBestIn, IsBranchIn, IsGuessIn, IsOracle};
 
 use crate::branch::Branch;
-use crate::found::{MOST_TIED, Tied};
+use crate::found::{Committees, Tied};
 use crate::oracle::Oracle;
 use crate::searchable::Searchable;
+use arrayvec::ArrayVec;
 use ballot_base::CandSet;
 use row_multipliers::Node;
 
@@ -27,7 +28,7 @@ const MOST_DUE: u8 = 16;
 #[derive(Drop)]
 pub(crate) struct BranchList {
     pub(crate) within: Branch,
-    pub(crate) tied: Tied,
+    pub(crate) winners: Committees,
     // A branch with more seats left is not listed.
     most_left: u8,
     // The number of lists to be found in a row until larger branches are listed, and of those that were found.
@@ -42,18 +43,14 @@ impl BranchList {
     pub(crate) fn nothing() -> BranchList
         ensures set { result.within.set ≡ [] }
         ensures free { result.within.free ≡ [] }
-        ensures none { result.tied.len ≡ 0 }
+        ensures none { length result.winners.items ≡ 0 }
     {
         BranchList {
             within: Branch {
                 set: CandSet::empty(),
                 free: CandSet::empty(),
             },
-            tied: Tied {
-                committees: [CandSet::empty(); MOST_TIED],
-                len: 0,
-                are_all: true,
-            },
+            winners: ArrayVec::new(),
             most_left: FEW_SEATS,
             due: 1,
             found: 0,
@@ -94,7 +91,7 @@ impl BranchList {
         let are_many = self.questions > FEW_QUESTIONS;
         let left = oracle.k.saturating_sub(branch.set.len());
         let is_small = 1 < left && left <= self.most_left && left < branch.free.len();
-        is_small && are_many && !oracle.tied.are_all && !self.within.has(branch)
+        is_small && are_many && matches!(oracle.tied, Tied::Known(_)) && !self.within.has(branch)
     }
 
     /// Lists the winners that complete the branch, if the search does. Otherwise the list stays.
@@ -111,9 +108,9 @@ impl BranchList {
             left: oracle.k - branch.set.len(),
         };
         match oracle.search.completions(&node, oracle.value) {
-            Some(tied) => {
+            Some(winners) => {
                 self.within = *branch;
-                self.tied = tied;
+                self.winners = winners;
                 self.note_found(oracle.k);
             }
             None => self.note_given_up(),
@@ -123,7 +120,7 @@ impl BranchList {
     /// Lets larger branches be listed, up to `k` seats, if enough lists were found in a row.
     fn note_found(&mut self, k: u8)
         ensures within { self.new.within ≡ self.old.within }
-        ensures tied { self.new.tied ≡ self.old.tied }
+        ensures winners { self.new.winners ≡ self.old.winners }
     {
         self.found = self.found.saturating_add(1);
         if self.found >= self.due {
@@ -135,7 +132,7 @@ impl BranchList {
     /// Lets only smaller branches be listed, for longer than before.
     fn note_given_up(&mut self)
         ensures within { self.new.within ≡ self.old.within }
-        ensures tied { self.new.tied ≡ self.old.tied }
+        ensures winners { self.new.winners ≡ self.old.winners }
     {
         self.most_left = self.most_left.saturating_sub(1).max(FEW_SEATS);
         self.due = self.due.saturating_mul(2).min(MOST_DUE);
@@ -158,6 +155,6 @@ impl BranchList {
         if branch.is_completed_by(found) || !self.within.has(branch) {
             return Some(found);
         }
-        branch.suited(oracle.search.clones(), &self.tied)
+        branch.suited(oracle.search.clones(), &self.winners)
     }
 }

@@ -4,22 +4,39 @@
 //! that were listed, and from then on its value is looked for. If more tie than can be listed, the list stays full, and
 //! only higher values still count. A candidate that was tried with a set is no longer free to join it, so no committee
 //! is met twice.
-ghost use Rattle.std.specs.Prelude.{◌≡◌, ℕ, ◌^◌, ◌<◌, ◌≤◌, List, MatchOption};
+ghost use Rattle.std.specs.Prelude.{◌≡◌, ℕ, ◌^◌, ◌<◌, ◌≤◌, List, MatchOption, length};
 ghost use Rattle.ballot_base.specs.Limits.{most_thiele_value};
-ghost use Rattle.tie_search.specs.Steps.Found.{Advances, AreListed, IsListed, IsSettled};
+ghost use Rattle.tie_search.specs.Steps.Found.{Advances, AreListed, HasSome, IsKnown, IsListed, IsSettled};
 
+use arrayvec::ArrayVec;
 use ballot_base::CandSet;
 
 /// The maximum number of tied committees that are listed.
 pub const MOST_TIED: usize = 256;
 
-/// Committees with the highest value: the first `len` of the array, at least one.
+/// A list of committees.
+pub type Committees = ArrayVec<CandSet, MOST_TIED>;
+
+/// What is known of the committees with the highest value.
 #[derive(Drop)]
-pub struct Tied {
-    pub committees: [CandSet; MOST_TIED],
-    pub len: usize,
-    /// Whether every other committee with this value becomes a listed one if clones take the place of members.
-    pub are_all: bool,
+pub enum Tied {
+    /// A list of at least one. Every other one becomes a listed one if clones take the place of members.
+    Listed(Committees),
+    /// One of them.
+    Known(CandSet),
+}
+
+impl Tied {
+    /// The first committee that is known.
+    pub(crate) fn first(&self) -> CandSet
+        requires { HasSome self.now }
+        ensures { IsKnown self.now result }
+    {
+        match self {
+            Tied::Listed(committees) => committees[0],
+            Tied::Known(committee) => *committee,
+        }
+    }
 }
 
 /// Which committees a search looks for.
@@ -39,8 +56,7 @@ pub struct Found {
     pub least: u128,
     // The value of the listed committees.
     pub value: u128,
-    pub committees: [CandSet; MOST_TIED],
-    pub len: usize,
+    pub committees: Committees,
 }
 
 impl Found {
@@ -48,22 +64,21 @@ impl Found {
     pub fn nothing(wanted: Wanted, least: u128) -> Found
         ensures wanted { result.wanted ≡ wanted }
         ensures least { result.least ≡ least }
-        ensures none { result.len ≡ 0 }
+        ensures none { length result.committees.items ≡ 0 }
     {
         Found {
             wanted,
             least,
             value: 0,
-            committees: [CandSet::empty(); MOST_TIED],
-            len: 0,
+            committees: ArrayVec::new(),
         }
     }
 
     /// The committee that is listed first.
     pub fn first(&self) -> Option<CandSet>
-        ensures { MatchOption result (self.now.len ≡ 0) (λ committee. IsListed self.now committee) }
+        ensures { MatchOption result (length self.now.committees.items ≡ 0) (λ committee. IsListed self.now committee) }
     {
-        (self.len > 0).then_some(self.committees[0])
+        self.committees.first().copied()
     }
 
     /// Takes a committee that is not listed yet, if its value is looked for. The value is at most 2^116.
@@ -78,19 +93,18 @@ impl Found {
         if value < self.least {
             return;
         }
-        if self.len == 0 || value > self.value {
+        if self.committees.is_empty() || value > self.value {
             self.value = value;
             self.least = match self.wanted {
                 Wanted::One => u128::MAX,
                 Wanted::All => value,
             };
-            self.committees[0] = committee;
-            self.len = 1;
-        } else if self.len < MOST_TIED {
-            self.committees[self.len] = committee;
-            self.len += 1;
-        } else {
+            self.committees.clear();
+            self.committees.push(committee);
+        } else if self.committees.is_full() {
             self.least = value + 1;
+        } else {
+            self.committees.push(committee);
         }
     }
 }

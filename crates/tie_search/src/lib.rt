@@ -21,6 +21,6 @@ mod oracle;
 pub mod searchable;
 pub mod winners;
 
-pub use found::{MOST_TIED, Tied};
+pub use found::{Committees, MOST_TIED, Tied};
 pub use searchable::{Searchable, WithClones};
 pub use winners::SearchWinners;

@@ -15,7 +15,7 @@ ghost use Rattle.tie_search.specs.Tied.{AreBest};
 ghost use Rattle.tie_search.specs.Steps.Branches.{IsAnswerIn, IsBestIn, IsBranchIn, IsGuessIn, IsOracle};
 
 use crate::branch::Branch;
-use crate::found::{MOST_TIED, Tied};
+use crate::found::Tied;
 use crate::searchable::Searchable;
 use ballot_base::CandSet;
 use row_multipliers::Node;
@@ -48,11 +48,7 @@ impl<S: Searchable> Oracle<S> {
         if branch.is_completed_by(found) {
             return Some(found);
         }
-        let like = if self.tied.are_all {
-            self.listed(branch)?
-        } else {
-            found
-        };
+        let like = self.like(branch, found)?;
         if branch.is_completed_by(like) {
             return Some(like);
         }
@@ -90,15 +86,18 @@ impl<S: Searchable> Oracle<S> {
         self.search.value(set) >= self.value
     }
 
-    /// A committee of the list, which must have all. It may become one that completes the branch if clones take the
-    /// place of members. Returns `None` only if no committee with the highest value completes the branch.
-    fn listed(&self, branch: &Branch) -> Option<CandSet>
+    /// A committee with the highest value that may complete the branch: a listed one if all are listed, and otherwise
+    /// `found`. Returns `None` only if no committee with the highest value completes the branch.
+    fn like(&self, branch: &Branch, found: CandSet) -> Option<CandSet>
         requires knows { IsOracle S.value_of S.class_of S.candidates self.now }
         requires branch { IsBranchIn S.candidates self.now branch.now }
-        requires all { self.now.tied.are_all ≡ true }
+        requires found { IsBestIn S.value_of S.candidates self.now found }
         ensures { IsGuessIn S.value_of S.candidates self.now branch.now result }
     {
-        branch.suited(self.search.clones(), &self.tied)
+        match &self.tied {
+            Tied::Listed(winners) => branch.suited(self.search.clones(), winners),
+            Tied::Known(_) => Some(found),
+        }
     }
 }
 
@@ -111,11 +110,7 @@ pub(crate) fn best_committees<S: Searchable>(search: &S, k: u8) -> Tied
 {
     match search.tied(k) {
         Some(tied) => tied,
-        None => Tied {
-            committees: [best_committee(search, k); MOST_TIED],
-            len: 1,
-            are_all: false,
-        },
+        None => Tied::Known(best_committee(search, k)),
     }
 }
 

@@ -6,7 +6,7 @@ ghost use Rattle.row_multipliers.specs.Completions.{Finds, IsNode};
 ghost use Rattle.tie_search.specs.Alike.{AreAlike, AreClasses, HasClasses};
 ghost use Rattle.tie_search.specs.Tied.{AreReaching, AreTied};
 
-use crate::found::Tied;
+use crate::found::{Committees, Tied};
 use ballot_base::{CandSet, Clones};
 use row_multipliers::Node;
 use tie_walk::Tally;
@@ -40,9 +40,9 @@ pub trait Searchable: WithClones {
         requires value { node.now.value ≡ Self.value_of self.now node.now.set }
         ensures { Finds (Self.value_of self.now) (Self.candidates self.now) node.now least result };
 
-    /// Lists committees of `k` with the highest value, each once. Every other one becomes a listed one if clones take
-    /// the place of members. If there are more, `MOST_TIED` of them are listed. Returns `None` if they are left to
-    /// `find`, as for a rule under which too many tie in most elections.
+    /// Lists the committees of `k` with the highest value, each once, or returns one of them if there are more than
+    /// `MOST_TIED`. Every other one becomes a listed one if clones take the place of members. Returns `None` if they
+    /// are left to `find`, as for a rule under which too many tie in most elections.
     fn tied(&self, k: u8) -> Option<Tied>
         requires some { 1 ≤ k }
         requires fits { k ≤ Self.candidates self.now }
@@ -52,11 +52,11 @@ pub trait Searchable: WithClones {
     /// Lists the committees that complete a node and are worth at least `least`, each once. Every other one becomes a
     /// listed one if clones take the place of members. Returns `None` if there are more than `MOST_TIED`, or they are
     /// not looked for, as it would take too long.
-    fn completions(&self, node: &Node, least: u128) -> Option<Tied>
+    fn completions(&self, node: &Node, least: u128) -> Option<Committees>
         requires is_node { IsNode (Self.candidates self.now) node.now.set node.now.free }
         requires value { node.now.value ≡ Self.value_of self.now node.now.set }
-        ensures { MatchOption result ⊤
-            (AreReaching (Self.value_of self.now) (Self.class_of self.now) (Self.candidates self.now) node.now least) }
+        ensures { MatchOption result ⊤ (λ committees. AreReaching (Self.value_of self.now) (Self.class_of self.now)
+            (Self.candidates self.now) node.now least committees.items) }
     {
         None
     }

@@ -59,7 +59,7 @@ impl<S: Searchable> SearchWinners<S> {
     {
         let m = search.m();
         let tied = best_committees(&search, k);
-        let found = tied.committees[0];
+        let found = tied.first();
         SearchWinners {
             asking: Asking::begin(&after, m, found),
             list: BranchList::nothing(),

@@ -12,7 +12,7 @@ use std::alloc::Global;
 use std::cell::Cell;
 use std::process::Abort;
 use thiele_search::{SearchMemory, ThieleSearch};
-use tie_search::{SearchWinners, Searchable, Tied, WithClones};
+use tie_search::{Committees, SearchWinners, Searchable, Tied, WithClones};
 use tie_walk::{Tally, Winners};
 
 /// Asserts something about two numbers, and shows both if it fails. One message serves many tests, since each message
@@ -276,7 +276,7 @@ impl<'a, S: Searchable> Searchable for CountedSearch<'a, S> {
         self.search.tied(k)
     }
 
-    fn completions(&self, node: &Node, least: u128) -> Option<Tied> {
+    fn completions(&self, node: &Node, least: u128) -> Option<Committees> {
         self.search.completions(node, least)
     }
 }

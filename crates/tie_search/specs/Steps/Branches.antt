@@ -7,7 +7,7 @@ use Rattle.ballot_base.specs.Lists.{IsIncreasing, increasing_lists, later_than}
 use Rattle.tie_walk.specs.Winners.{winners}
 use Rattle.tie_search.specs.Alike.{AreClasses, Becomes, HasClasses}
 use Rattle.tie_search.specs.Asked.{beginnings, begins_some, most_questions}
-use Rattle.tie_search.specs.Tied.{IsAmong, IsBest, most_tied}
+use Rattle.tie_search.specs.Tied.{IsAmong, IsBest}
 use Rattle.tie_search.specs.Steps.Searched.{IsSearched}
 use Rattle.tie_search.specs.declared.asking.Asking.{Asking}
 use Rattle.tie_search.specs.declared.oracle.Oracle.{Oracle}
@@ -83,10 +83,9 @@ IsAnswer value m k branch answer = MatchOption answer (IsBarren value m k branch
 -- the committees with the highest value that complete the branch of a list: each becomes a listed one by exchanges of
 -- clones
 pub record AreListedWithin (value : List ℕ → ℕ) (class : ℕ → List ℕ) (m k : ℕ) (list : BranchList) : Type 0 where
-  pub few : list.tied.len ≤ most_tied
-  pub each : (committee : List ℕ) → IsAmong list.tied.committees list.tied.len committee → IsBest value m k committee
+  pub each : (committee : List ℕ) → IsAmong list.winners.items committee → IsBest value m k committee
   pub all : (committee : List ℕ) → IsWinnerOf value m k list.within committee
-      → (other : List ℕ) × IsAmong list.tied.committees list.tied.len other × Becomes m class other committee
+      → (other : List ℕ) × IsAmong list.winners.items other × Becomes m class other committee
 
 -- what is known of the committees of k with the highest value is true
 abbrev pub IsOracle : {S : Type 0} → (S → List ℕ → ℕ) → (S → ℕ → List ℕ) → (S → ℕ) → Oracle S → Type 0

@@ -1,13 +1,25 @@
 -- Steps of a search that lists committees.
-use Rattle.std.specs.Prelude.{◌≡◌, ℕ, ◌+◌, ◌⊎◌, ◌<◌, ◌≤◌, List}
+use Rattle.std.specs.Prelude.{◌≡◌, ℕ, ◌+◌, ◌⊎◌, ◌<◌, ◌≤◌, List, length, ⊤}
 use Rattle.tie_search.specs.Alike.{Becomes}
 use Rattle.row_multipliers.specs.Completions.{IsCompletion}
 use Rattle.tie_search.specs.Tied.{AreDistinct, IsAmong, most_tied}
 use Rattle.tie_search.specs.declared.found.Found.{Found}
+use Rattle.tie_search.specs.declared.found.Tied.{Tied}
+use Rattle.tie_search.specs.declared.found.Tied.TheVariants.{Known, Listed}
 use Rattle.tie_search.specs.declared.found.Wanted.TheVariants.{All}
 
+-- at least one committee is known
+abbrev pub HasSome : Tied → Type 0
+HasSome (Listed committees) = 1 ≤ length committees.items
+HasSome (Known committee) = ⊤
+
+-- the committee is one of those that are known
+abbrev pub IsKnown : Tied → List ℕ → Type 0
+IsKnown (Listed committees) = IsAmong committees.items
+IsKnown (Known committee) = λ other. other ≡ committee
+
 abbrev pub IsListed : Found → List ℕ → Type 0
-IsListed found = IsAmong found.committees found.len
+IsListed found = IsAmong found.committees.items
 
 -- the committee is worth less than what is still looked for, or it is listed
 abbrev pub IsSettled : (List ℕ → ℕ) → Found → List ℕ → Type 0
@@ -15,7 +27,7 @@ IsSettled value found committee = (value committee < found.least) ⊎ IsListed f
 
 -- no listed committee has the value that is still looked for
 abbrev pub IsAbove : Found → Type 0
-IsAbove found = 1 ≤ found.len → found.value < found.least
+IsAbove found = 1 ≤ length found.committees.items → found.value < found.least
 
 -- the committee becomes, by exchanges of clones, one that is settled and has the same value
 pub record IsSettledLike (value : List ℕ → ℕ) (m : ℕ) (class : ℕ → List ℕ) (found : Found) (committee : List ℕ) : Type 0
@@ -28,16 +40,17 @@ pub record IsSettledLike (value : List ℕ → ℕ) (m : ℕ) (class : ℕ → L
 -- The listed committees are distinct and have the same value, and no lower value is looked for. If this value is no
 -- longer looked for, the list is full.
 pub record AreListed (value : List ℕ → ℕ) (found : Found) : Type 0 where
-  pub few : found.len ≤ most_tied
+  pub few : length found.committees.items ≤ most_tied
   pub same : (committee : List ℕ) → IsListed found committee → value committee ≡ found.value
-  pub low : 1 ≤ found.len → found.value ≤ found.least
-  pub high : found.wanted ≡ All → 1 ≤ found.len → found.least ≤ found.value + 1
-  pub full : found.wanted ≡ All → 1 ≤ found.len → found.value < found.least → found.len ≡ most_tied
-  pub distinct : AreDistinct found.committees found.len
+  pub low : 1 ≤ length found.committees.items → found.value ≤ found.least
+  pub high : found.wanted ≡ All → 1 ≤ length found.committees.items → found.least ≤ found.value + 1
+  pub full : found.wanted ≡ All → 1 ≤ length found.committees.items → found.value < found.least
+      → length found.committees.items ≡ most_tied
+  pub distinct : AreDistinct found.committees.items
 
 -- all committees are wanted, but the value of the listed ones is no longer looked for
 abbrev pub LeavesOut : Found → Type 0
-LeavesOut found = (found.wanted ≡ All) × (1 ≤ found.len) × (found.value < found.least)
+LeavesOut found = (found.wanted ≡ All) × (1 ≤ length found.committees.items) × (found.value < found.least)
 
 -- the committee has the value of the listed ones, and is not listed
 abbrev pub IsLeftOut : (List ℕ → ℕ) → Found → List ℕ → Type 0
@@ -57,7 +70,8 @@ pub record Advances (value : List ℕ → ℕ) (IsNew : List ℕ → Type 0) (be
   pub kept : (committee : List ℕ) → IsListed before committee → IsSettled value after committee
   pub new : (committee : List ℕ) → IsListed after committee
       → IsListed before committee ⊎ (IsNew committee × (before.least ≤ value committee))
-  pub none : after.len ≡ 0 → (before.len ≡ 0) × (after.least ≡ before.least)
+  pub none : length after.committees.items ≡ 0
+      → (length before.committees.items ≡ 0) × (after.least ≡ before.least)
   pub more : LeavesOut after
       → StillLeavesOut value before after ⊎ ((committee : List ℕ) × IsNew committee × IsLeftOut value after committee)
 

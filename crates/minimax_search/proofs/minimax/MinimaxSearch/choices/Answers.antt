@@ -12,7 +12,7 @@ use Rattle.tie_search.specs.Steps.Descent.{AreChoices}
 use Rattle.tie_search.proofs.DescentLemmas.{choice-of_all, narrowed-choice}
 use Rattle.minimax_search.proofs.NeedLemmas.{choice-of_ballot, hopeless, narrowed-to_ballot, too-few}
 use Rattle.minimax_search.proofs.minimax.MinimaxSearch.choices.Goals as goal
-use Rattle.minimax_search.proofs.minimax.MinimaxSearch.choices.Goals.{After-row-ballot, After-len-in-loop-visit-3, then-needed-node, else-needed-node, then-spare-fewest, else-spare-fewest+else-needed-most_needed}
+use Rattle.minimax_search.proofs.minimax.MinimaxSearch.choices.Goals.{After-row-ballot, After-len-in-loop-visit-3, then-needed-node, else-needed-node}
 
 pub returns-then-len-node : goal.returns-then-len-node
 returns-then-len-node g c =
@@ -26,7 +26,7 @@ loop-visit-init g c =
     let node = c.args.node.now in
     record {
       narrowed = narrowed-none (closeness e.m e.rows) e.m node.set node.free node.left (e.m - c.args.most) c.requires.is_node;
-      choice = choice-of_all (closeness e.m e.rows) e.m node.set node.free node.left (e.m - c.args.most) c.requires.is_node c.requires.some;
+      choice = subst (AreChoices (closeness e.m e.rows) e.m node.set node.free node.left (e.m - c.args.most)) (sym c.none-tightest.ensures) (choice-of_all (closeness e.m e.rows) e.m node.set node.free node.left (e.m - c.args.most) c.requires.is_node c.requires.some);
     }
 
 -- the ballots are those of an election
@@ -93,12 +93,12 @@ loop-visit-preserved g c =
     let inv = c.loop-visit.invariant in
     record {
       narrowed = still-narrowed g at.After-len-in-loop-visit-3 is_election found;
-      choice = elim c.if-spare-fewest.branch [
-        | then-spare-fewest w ↦
-            subst (AreChoices V e.m node.set node.free node.left least) (sym (w.choices-is ∙ c.common-open.ensures))
+      choice = elim c.or-tightest.ensures [
+        | inl open ↦
+            subst (AreChoices V e.m node.set node.free node.left least) (sym (open ∙ c.common-open.ensures))
             (narrowed-choice V e.m node.set node.free rest node.left least inv.narrowed (common_members row.0 rest)
             (choice-of_ballot e.m e.rows c.args.most node.set rest node.left is_election.ballots inv.narrowed.is_node c.row.result row found
             (omega (arith, c.still_needed-needed.ensures, c.if-needed-eq0.false))))
-        | else-spare-fewest+else-needed-most_needed w ↦ subst (AreChoices V e.m node.set node.free node.left least) (sym w.choices-is) inv.choice
+        | inr before ↦ subst (AreChoices V e.m node.set node.free node.left least) (sym before) inv.choice
       ];
     }

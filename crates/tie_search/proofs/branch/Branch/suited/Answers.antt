@@ -1,4 +1,4 @@
-use Rattle.std.proofs.Common.{rules, ◌≡◌, ◌∙◌, [], arith, inl, inr, ap, get_or, length, subst, sym}
+use Rattle.std.proofs.Common.{◌≡◌, ◌∙◌, [], arith, inl, inr, ap, get_or, subst, sym}
 use Rattle.std.proofs.lemmas.Bool.{cases_eq}
 use Rattle.std.proofs.lemmas.List.{get_or_default}
 use Rattle.tie_search.specs.Steps.Branches.{IsUnsuited}
@@ -8,11 +8,10 @@ pub loop-i-preserved : goal.loop-i-preserved
 loop-i-preserved c = record {
   none = λ j low. elim (cases_eq j c.loop-i.i) [
     | inl same ↦
-        let committees = c.args.tied.now.committees in
-        let long : length committees ≡ 256 = search rules in
-        let at : get_or committees c.loop-i.i [] ≡ get_or committees c.loop-i.i c.index-tied-i.result =
-        get_or_default committees c.loop-i.i [] c.index-tied-i.result (omega (arith, c.loop-i-test.true, c.requires, long)) in
-        let here : get_or committees j [] ≡ get_or committees c.loop-i.i c.index-tied-i.result = ap (λ n. get_or committees n []) same ∙ at in
+        let committees = c.args.committees.now in
+        let at : get_or committees c.loop-i.i [] ≡ c.index-committees-i.result =
+        get_or_default committees c.loop-i.i [] c.index-committees-i.result c.loop-i-test.true ∙ sym c.index-committees-i.is in
+        let here : get_or committees j [] ≡ c.index-committees-i.result = ap (λ n. get_or committees n []) same ∙ at in
         subst (IsUnsuited c.args.self.now c.args.clones.now) (sym here) (c.suits.ensures c.if-suits.false)
     | inr other ↦ c.loop-i.invariant.none j (omega (arith, low, other))
   ];

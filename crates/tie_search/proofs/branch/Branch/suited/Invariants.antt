@@ -4,4 +4,4 @@ use Rattle.tie_search.proofs.branch.Branch.suited.Given as goal
 
 -- those that were looked at do not suit
 abbrev pub invariant-loop-i : goal.invariant-loop-i
-invariant-loop-i l = record { none : (j : ℕ) → j < l.i → IsUnsuited l.self l.clones (get_or l.tied.committees j []) }
+invariant-loop-i l = record { none : (j : ℕ) → j < l.i → IsUnsuited l.self l.clones (get_or l.committees j []) }

@@ -16,9 +16,9 @@ returns-in-Some g c =
     let value = g.S.Tally.value_of oracle.search in
     let class = g.S.WithClones.class_of oracle.search in
     let m = g.S.Tally.candidates oracle.search in
-    let made : BranchList = record { within = c.args.branch.now; tied = c.in-Some.tied; most_left = 0; due = 0; found = 0; questions = 0 } in
+    let made : BranchList = record { within = c.args.branch.now; winners = c.in-Some.winners; most_left = 0; due = 0; found = 0; questions = 0 } in
     record {
-      listed = same-within value class m oracle.k made c.note_found.new.self c.note_found.ensures.within c.note_found.ensures.tied
+      listed = same-within value class m oracle.k made c.note_found.new.self c.note_found.ensures.within c.note_found.ensures.winners
           (all-within value class m oracle.k made c.value.result (oracle.k - c.len.result) c.requires.branch (omega (arith, c.len.ensures.count, c.requires.branch.size)) (rw c.requires.knows.best_is at c.in-Some.ensures));
     }
 
@@ -27,5 +27,5 @@ returns-in-None g c =
     let oracle = c.args.oracle.now in
     record {
       listed = same-within (g.S.Tally.value_of oracle.search) (g.S.WithClones.class_of oracle.search) (g.S.Tally.candidates oracle.search) oracle.k c.args.self.now c.note_given_up.new.self
-          c.note_given_up.ensures.within c.note_given_up.ensures.tied c.requires.listed;
+          c.note_given_up.ensures.within c.note_given_up.ensures.winners c.requires.listed;
     }

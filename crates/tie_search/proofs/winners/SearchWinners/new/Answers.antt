@@ -1,21 +1,30 @@
-use Rattle.std.proofs.lemmas.List.{get_or_default}
-use Rattle.std.proofs.Common.{◌≡◌, rules, [], arith, get_or, length, ◌∙◌, ap}
-use Rattle.tie_search.specs.Tied.{IsBest}
+use Rattle.std.proofs.Common.{ℕ, List, ◌∙◌, ap, subst, sym}
+use Rattle.tie_search.specs.Tied.{AreBest, IsBest}
 use Rattle.tie_search.specs.Steps.Branches.{IsBegun, first_branches}
+use Rattle.tie_search.specs.Steps.Found.{HasSome, IsKnown}
 use Rattle.tie_search.specs.Steps.Searched.{IsSearched}
+use Rattle.tie_search.specs.declared.found.Tied.{Tied}
+use Rattle.tie_search.specs.declared.found.Tied.TheVariants.{Known, Listed}
 use Rattle.tie_search.proofs.ListLemmas.{nothing-within}
 use Rattle.tie_search.proofs.StartLemmas.{begun-from}
 use Rattle.tie_search.proofs.winners.SearchWinners.new.Given.{Over}
 use Rattle.tie_search.proofs.winners.SearchWinners.new.Goals as goal
 use Rattle.tie_search.proofs.winners.SearchWinners.new.Goals.{After-value}
 
-first-is : (g : Over) (c : After-value g) → IsBest (g.S.Tally.value_of c.args.search) (g.S.Tally.candidates c.args.search) c.args.k (get_or c.best_committees-tied.result.committees 0 c.index-tied-0.result)
-first-is g c =
-    let tied = c.best_committees-tied in
-    let committees = tied.result.committees in
-    let first = get_or committees 0 c.index-tied-0.result in
-    let long : length committees ≡ 256 = search rules in
-    tied.ensures.each first (0, omega (arith, tied.ensures.some), get_or_default committees 0 [] c.index-tied-0.result (omega (arith, long)))
+-- the first committee that is known is one with the highest value
+known-best : (value : List ℕ → ℕ) (class : ℕ → List ℕ) (m k : ℕ) (tied : Tied) (committee : List ℕ) → AreBest value class m k tied → IsKnown tied committee → IsBest value m k committee
+known-best value class m k (Listed committees) committee best known = best.each committee known
+known-best value class m k (Known one) committee best same = subst (IsBest value m k) (sym same) best
+
+has-some : (value : List ℕ → ℕ) (class : ℕ → List ℕ) (m k : ℕ) (tied : Tied) → AreBest value class m k tied → HasSome tied
+has-some value class m k (Listed committees) best = best.some
+has-some value class m k (Known one) best = tt
+
+pub first-found-requires : goal.first-found-requires
+first-found-requires g c = has-some (g.S.Tally.value_of c.args.search) (g.S.WithClones.class_of c.args.search) (g.S.Tally.candidates c.args.search) c.args.k c.best_committees-tied.result c.best_committees-tied.ensures
+
+first-is : (g : Over) (c : After-value g) → IsBest (g.S.Tally.value_of c.args.search) (g.S.Tally.candidates c.args.search) c.args.k c.first-found.result
+first-is g c = known-best (g.S.Tally.value_of c.args.search) (g.S.WithClones.class_of c.args.search) (g.S.Tally.candidates c.args.search) c.args.k c.best_committees-tied.result c.first-found.result c.best_committees-tied.ensures c.first-found.ensures
 
 is-begun : (g : Over) (c : After-value g) → IsBegun (g.S.Tally.value_of c.args.search) (g.S.Tally.candidates c.args.search) c.args.k c.args.after c.begin.result
 is-begun g c =
