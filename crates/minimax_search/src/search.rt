@@ -93,36 +93,37 @@ impl<A: Allocator + Copy> Narrowing for MinimaxSearch<'_, A> {
     }
 }
 
-/// The free candidates on the tightest ballot so far. Any ballot that needs a hit works; a tight one leaves few
-/// candidates to try.
+/// The tightest ballot so far: the one that can spare the fewest candidates. Any ballot that needs a hit works; a tight
+/// one leaves few candidates to try.
 #[derive(Clone, Copy)]
 struct Tightest {
-    open: CandSet,
+    /// The candidates on the ballot that can still join.
+    choices: CandSet,
     /// How many of them the ballot can spare.
     spare: u8,
     needed: u8,
 }
 
 impl Tightest {
-    /// No ballot yet: all candidates are open.
-    fn none(open: CandSet) -> Tightest
-        ensures { result.open ≡ open }
+    /// No ballot yet, so any candidate may be tried.
+    fn none(free: CandSet) -> Tightest
+        ensures { result.choices ≡ free }
     {
         Tightest {
-            open,
+            choices: free,
             spare: u8::MAX,
             needed: 0,
         }
     }
 
-    /// The tighter one of this and another ballot, which needs so many of its open candidates.
-    fn or(self, open: CandSet, needed: u8) -> Tightest
-        ensures { (result.open ≡ open) ⊎ (result.open ≡ self.open) }
+    /// The tighter of this ballot and another one, which needs some of its candidates.
+    fn or(self, choices: CandSet, needed: u8) -> Tightest
+        ensures { (result.choices ≡ choices) ⊎ (result.choices ≡ self.choices) }
     {
-        let spare = open.len().saturating_sub(needed);
+        let spare = choices.len().saturating_sub(needed);
         if spare < self.spare || spare == self.spare && needed > self.needed {
             return Tightest {
-                open,
+                choices,
                 spare,
                 needed,
             };
@@ -176,7 +177,7 @@ impl<A: Allocator + Copy> MinimaxSearch<'_, A> {
             place = place.saturating_add(1);
         }
         self.rows.note(node.left, matter);
-        Some((tightest.open, rest))
+        Some((tightest.choices, rest))
     }
 
     /// Enters a node with `left` seats left, and chooses weights. The `choices` are to be tried.

@@ -1,4 +1,4 @@
-use Rattle.std.proofs.Common.{Some, slice_get, ◌≡◌, ◌-◌, arith, ap, sym, subst, ◌∙◌, length}
+use Rattle.std.proofs.Common.{Some, inl, inr, slice_get, ◌≡◌, ◌-◌, arith, ap, sym, subst, ◌∙◌, length}
 use Rattle.ballot_base.specs.CandSet.{common_members}
 use Rattle.ballot_base.specs.Ballots.{Row, IsElection}
 use Rattle.ballot_base.specs.Limits.{most_candidates}
@@ -12,7 +12,7 @@ use Rattle.tie_search.specs.Steps.Descent.{AreChoices}
 use Rattle.tie_search.proofs.DescentLemmas.{choice-of_all, narrowed-choice}
 use Rattle.minimax_search.proofs.NeedLemmas.{choice-of_ballot, hopeless, narrowed-to_ballot, too-few}
 use Rattle.minimax_search.proofs.minimax.MinimaxSearch.choices.Goals as goal
-use Rattle.minimax_search.proofs.minimax.MinimaxSearch.choices.Goals.{After-row-ballot, After-len-in-loop-visit-3, then-needed-node, else-needed-node}
+use Rattle.minimax_search.proofs.minimax.MinimaxSearch.choices.Goals.{After-row-ballot, After-or-tightest, then-needed-node, else-needed-node}
 
 pub returns-then-len-node : goal.returns-then-len-node
 returns-then-len-node g c =
@@ -60,7 +60,7 @@ returns-then-needed-min g c =
     (omega (arith, c.still_needed-needed.ensures, c.if-needed-min.true, c.min.ensures, c.len-in-loop-visit.ensures.count, ap length c.common-open.ensures, length-common row.0 rest)))
 
 -- who can still join after a ballot
-still-narrowed : (g : _) (c : After-len-in-loop-visit-3 g) → IsElection c.args.self.now → slice_get c.args.self.now.rows c.row.result ≡ Some c.row-ballot.result
+still-narrowed : (g : _) (c : After-or-tightest g) → IsElection c.args.self.now → slice_get c.args.self.now.rows c.row.result ≡ Some c.row-ballot.result
     → IsNarrowed (closeness c.args.self.now.m c.args.self.now.rows) c.args.self.now.m c.args.node.now.set c.args.node.now.free c.args.node.now.left (c.args.self.now.m - c.args.most) c.if-needed-node.rest
 still-narrowed g c is_election at =
     let e = c.args.self.now in
@@ -92,10 +92,10 @@ loop-visit-preserved g c =
     let rest = c.loop-visit.rest in
     let inv = c.loop-visit.invariant in
     record {
-      narrowed = still-narrowed g at.After-len-in-loop-visit-3 is_election found;
+      narrowed = still-narrowed g at.After-or-tightest is_election found;
       choice = elim c.or-tightest.ensures [
-        | inl open ↦
-            subst (AreChoices V e.m node.set node.free node.left least) (sym (open ∙ c.common-open.ensures))
+        | inl tighter ↦
+            subst (AreChoices V e.m node.set node.free node.left least) (sym (tighter ∙ c.common-open.ensures))
             (narrowed-choice V e.m node.set node.free rest node.left least inv.narrowed (common_members row.0 rest)
             (choice-of_ballot e.m e.rows c.args.most node.set rest node.left is_election.ballots inv.narrowed.is_node c.row.result row found
             (omega (arith, c.still_needed-needed.ensures, c.if-needed-eq0.false))))

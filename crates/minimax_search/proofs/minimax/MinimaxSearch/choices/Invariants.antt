@@ -8,5 +8,5 @@ use Rattle.minimax_search.proofs.minimax.MinimaxSearch.choices.Given as goal
 abbrev pub invariant-loop-visit : goal.invariant-loop-visit
 invariant-loop-visit g l = record {
   narrowed : IsNarrowed (closeness l.self.m l.self.rows) l.self.m l.fn.node.set l.fn.node.free l.fn.node.left (l.self.m - l.most) l.rest;
-  choice : AreChoices (closeness l.self.m l.self.rows) l.self.m l.fn.node.set l.fn.node.free l.fn.node.left (l.self.m - l.most) l.tightest.open;
+  choice : AreChoices (closeness l.self.m l.self.rows) l.self.m l.fn.node.set l.fn.node.free l.fn.node.left (l.self.m - l.most) l.tightest.choices;
 }
