@@ -13,7 +13,7 @@ use seat_share::{Method, Shares};
 use std::alloc::Global;
 use std::cell::Cell;
 use std::process::Abort;
-use tie_search::{SearchWinners, Searchable};
+use tie_search::{SearchWinners, Searchable, Tied};
 
 /// More winners than any of these elections has.
 const MOST_COUNTED: usize = 100_000;
@@ -245,15 +245,13 @@ fn assert_not_searched<S: Searchable>(rt: &impl Abort, search: &S, k: u8)
     requires some { 1 ≤ k }
     requires fits { k ≤ S.candidates search.now }
 {
-    let Some(tied) = search.tied(k) else {
-        return;
-    };
+    let are_listed = matches!(search.tied(k), Some(Tied::Listed(_)));
     let finds = Cell::new(0);
     let counted = CountedSearch::all(search, &finds);
     let count = SearchWinners::new(counted, k, None)
         .take(MOST_COUNTED)
         .count();
-    let fits = !tied.are_all || finds.get() == 0;
+    let fits = !are_listed || finds.get() == 0;
     assert_of(
         rt,
         fits,
