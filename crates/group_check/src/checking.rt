@@ -255,7 +255,7 @@ impl<A: Allocator + Copy> Search<'_, A> {
 }
 
 /// The choices of T of exactly these candidates, and of U of these members and `room` of the other `members`.
-fn beside(shared: CandSet, within: CandSet, members: CandSet, room: u8) -> Choices
+pub fn beside(shared: CandSet, within: CandSet, members: CandSet, room: u8) -> Choices
     ensures { result ≡ choices_beside shared within members room }
 {
     Choices {

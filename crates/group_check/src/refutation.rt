@@ -6,12 +6,13 @@
 //!   the voter out of the group. Each voter's vote is split evenly among the obstacles that T and U can have. A group
 //!   lacks at least the votes that are charged to the candidates in T, or to the members outside U.
 //! - Choices that neither refutes are split: into those with some candidate and those without it.
-ghost use Rattle.std.specs.Prelude.{◌≡◌, ℕ, ◌≤◌, IsTrue, slice_index, sum, sum_by, length};
+ghost use Rattle.std.specs.Prelude.{◌≡◌, ◌≢◌, ℕ, ◌≤◌, [], true, IfSome, IsTrue, slice_index, sum, sum_by, length};
 ghost use Rattle.ballot_base.specs.Limits.{most_candidates};
 ghost use Rattle.ballot_base.specs.Ballots.{IsElection};
+ghost use Rattle.ballot_base.specs.CandSet.{has_member};
 ghost use Rattle.group_check.specs.Steps.Refuting.{AreOpen, IsRefuted, CannotAgree, IsFinding, with_candidate, with_committee_member, may_belong, possible_voters, supporters, obstacles, charge};
 
-use crate::checking::{Search, voters_with};
+use crate::checking::{Search, beside, voters_with};
 use crate::property::Property;
 use ballot_base::{CandSet, Worths};
 use std::alloc::Allocator;
@@ -113,8 +114,8 @@ impl<A: Allocator + Copy> Search<'_, A> {
             Finding::Candidate(candidate) => {
                 let rest = choices.pool.without(candidate);
                 let pool = rest.minus(self.clones.class(candidate));
-                self.is_refuted(choices.with_candidate(candidate))
-                    && self.is_refuted(Choices { pool, ..choices })
+                self.is_refuted(Choices { pool, ..choices })
+                    && self.is_refuted(choices.with_candidate(candidate))
             }
             Finding::Member(member) => {
                 let members = choices.members.without(member);
@@ -144,6 +145,9 @@ impl<A: Allocator + Copy> Search<'_, A> {
         }
         if self.is_overcharged(choices, voters) {
             return Finding::Refuted;
+        }
+        if self.is_shown(choices, &supporters) {
+            return Finding::Unclear;
         }
         self.next_choice(choices, &supporters, voters)
     }
@@ -241,27 +245,74 @@ impl<A: Allocator + Copy> Search<'_, A> {
         charges
     }
 
-    /// What to choose next: members of the committee while the voters approve more of them than U has room for, and
-    /// then candidates, unless the voters agree on enough of them. The most approved come first.
+    /// Whether the most approved candidates of the pool and the most approved members have a large group. Among equals
+    /// all of the candidates are taken, and none of the members. No answer rests on the result, which only saves time.
+    fn is_shown(&self, choices: &Choices, supporters: &Worths) -> bool {
+        let least = supporters.nth_greatest(choices.pool, choices.left);
+        let candidates = supporters.at_least(choices.pool, least);
+        let next = supporters.nth_greatest(choices.members, choices.room.saturating_add(1));
+        let members = supporters.at_least(choices.members, next + 1);
+        let shared = choices.shared.union(candidates);
+        let within = choices.within.union(members);
+        let chosen = beside(shared, within, CandSet::empty(), 0);
+        voters_with(self.profile, |ballot| self.may_belong(&chosen, ballot)) >= self.needed()
+    }
+
+    /// What to choose next, if the voters agree on too few candidates of the pool or approve more members than U has
+    /// room for: the candidate with the fewest supporters, or the member with the most. The member comes first only if
+    /// leaving it out of U costs more voters than any candidate in T can cost at least.
     fn next_choice(&self, choices: &Choices, supporters: &Worths, voters: u64) -> Finding
         ensures { IsFinding self.now.property self.now.profile.now self.now.committee self.now.level choices.now
             result }
     {
-        if self.property == Property::Pjr
-            && supporters.at_least(choices.members, 1).len() > choices.room
-        {
-            return match supporters.best_of(choices.members) {
+        let all = u128::from(voters);
+        let candidates = disputed_candidates(choices, supporters, all);
+        let members = self.disputed_members(choices, supporters);
+        let most = supporters.nth_greatest(candidates, 1) + supporters.nth_greatest(members, 1);
+        if candidates.is_empty() || most > all {
+            return match supporters.best_of(members) {
                 Some(member) => Finding::Member(member),
                 None => Finding::Unclear,
             };
         }
-        let common = supporters.at_least(choices.pool, u128::from(voters));
-        if common.len() >= choices.left {
-            return Finding::Unclear;
-        }
-        match supporters.best_of(choices.pool.minus(common)) {
+        match least_supported(supporters, candidates) {
             Some(candidate) => Finding::Candidate(candidate),
             None => Finding::Unclear,
         }
     }
+
+    /// The members that U can have, or none if it has room for all that voters approve.
+    fn disputed_members(&self, choices: &Choices, supporters: &Worths) -> CandSet
+        ensures { (n : ℕ) → has_member result n ≡ true → has_member choices.now.members n ≡ true }
+    {
+        let approved = supporters.at_least(choices.members, 1);
+        if self.property == Property::Pjr && approved.len() > choices.room {
+            approved
+        } else {
+            CandSet::empty()
+        }
+    }
+}
+
+/// The candidates of the pool that some of the voters do not approve, or none if the others are enough for T.
+fn disputed_candidates(choices: &Choices, supporters: &Worths, voters: u128) -> CandSet
+    ensures among { (n : ℕ) → has_member result n ≡ true → has_member choices.now.pool n ≡ true }
+    ensures left { result ≢ [] → 1 ≤ choices.now.left }
+{
+    let common = supporters.at_least(choices.pool, voters);
+    if common.len() < choices.left {
+        choices.pool.minus(common)
+    } else {
+        CandSet::empty()
+    }
+}
+
+/// One of the candidates with the fewest supporters, or `None` for the empty set.
+fn least_supported(supporters: &Worths, candidates: CandSet) -> Option<u8>
+    ensures { IfSome result (λ n. has_member candidates n ≡ true) }
+{
+    let fewest = supporters.nth_greatest(candidates, candidates.len());
+    let others = supporters.at_least(candidates, fewest + 1);
+    let (candidate, _equals) = candidates.minus(others).split_first()?;
+    Some(candidate)
 }

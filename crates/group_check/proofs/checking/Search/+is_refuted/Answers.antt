@@ -23,20 +23,20 @@ pub is_refuted-requires-in-Candidate : goal.is_refuted-requires-in-Candidate
 is_refuted-requires-in-Candidate g t c κs within =
     let s = c.args.self.now in
     let n = c.in-Candidate.candidate in
-    let fewer = fewer-without c.args.choices.pool n c.in-Candidate.ensures.finding.0 in (
-      rw c.with_candidate.ensures (omega (arith, fewer, c.decreases)),
-      (within, rw c.with_candidate.ensures (open-with_candidate s.profile.now.m s.committee c.args.choices c.requires n)),
+    let rest = without_member c.args.choices.pool n in
+    let fewer = fewer-without c.args.choices.pool n c.in-Candidate.ensures.finding.0 in
+    let kept = length-kept (λ x. not (has_member c.class.result x)) rest in (
+      rw (c.minus-pool.ensures, c.without-rest.ensures) (omega (arith, fewer, kept, c.decreases)),
+      (within, rw (c.minus-pool.ensures, c.without-rest.ensures) (open-without_candidate s.profile.now.m s.committee c.args.choices c.requires n c.class.result)),
     )
 
 pub is_refuted-requires-then-is_refuted : goal.is_refuted-requires-then-is_refuted
 is_refuted-requires-then-is_refuted g t c κs within =
     let s = c.args.self.now in
     let n = c.in-Candidate.candidate in
-    let rest = without_member c.args.choices.pool n in
-    let fewer = fewer-without c.args.choices.pool n c.in-Candidate.ensures.finding.0 in
-    let kept = length-kept (λ x. not (has_member c.class.result x)) rest in (
-      rw (c.minus-pool.ensures, c.without-rest.ensures) (omega (arith, fewer, kept, c.decreases)),
-      (within, rw (c.minus-pool.ensures, c.without-rest.ensures) (open-without_candidate s.profile.now.m s.committee c.args.choices c.requires n c.class.result)),
+    let fewer = fewer-without c.args.choices.pool n c.in-Candidate.ensures.finding.0 in (
+      rw c.with_candidate.ensures (omega (arith, fewer, c.decreases)),
+      (within, rw c.with_candidate.ensures (open-with_candidate s.profile.now.m s.committee c.args.choices c.requires n)),
     )
 
 pub with_member-requires-clause-low : goal.with_member-requires-clause-low
@@ -74,8 +74,8 @@ returns-then-is_refuted g t c h =
     let n = c.in-Candidate.candidate in
     let bounds = member-bounds 1 s.profile.now.m c.args.choices.pool n c.requires.rises c.in-Candidate.ensures.finding.0 in
     split_candidate s.property s.profile.now s.committee s.level c.args.choices n c.class.result (c.class.ensures ∙ s.classes n bounds.0 bounds.1)
-    (rw c.with_candidate.ensures at (c.is_refuted-in-Candidate.ensures c.if-is_refuted.true))
-    (rw (c.minus-pool.ensures, c.without-rest.ensures) at (c.is_refuted-then-is_refuted.ensures h))
+    (rw c.with_candidate.ensures at (c.is_refuted-then-is_refuted.ensures h))
+    (rw (c.minus-pool.ensures, c.without-rest.ensures) at (c.is_refuted-in-Candidate.ensures c.if-is_refuted.true))
 
 pub returns-then-is_refuted-2 : goal.returns-then-is_refuted-2
 returns-then-is_refuted-2 g t c h =
