@@ -5,7 +5,8 @@
 //! - Charges: a candidate of T that a voter does not approve, or an approved member outside U, is an obstacle: it keeps
 //!   the voter out of the group. Each voter's vote is split evenly among the obstacles that T and U can have. A group
 //!   lacks at least the votes that are charged to the candidates in T, or to the members outside U.
-//! - Choices that neither refutes are split: into those with some candidate and those without it.
+//! - Choices that neither refutes are split: into those with some candidate and those without it. They are not split if
+//!   the most approved candidates and members have a large group.
 ghost use Rattle.std.specs.Prelude.{◌≡◌, ◌≢◌, ℕ, ◌≤◌, [], true, IfSome, IsTrue, slice_index, sum, sum_by, length};
 ghost use Rattle.ballot_base.specs.Limits.{most_candidates};
 ghost use Rattle.ballot_base.specs.Ballots.{IsElection};
@@ -245,8 +246,8 @@ impl<A: Allocator + Copy> Search<'_, A> {
         charges
     }
 
-    /// Whether the most approved candidates of the pool and the most approved members have a large group. Among equals
-    /// all of the candidates are taken, and none of the members. No answer rests on the result, which only saves time.
+    /// Whether T of the most approved candidates of the pool and U of the most approved members have a large group. Where
+    /// equals do not all fit, T takes all of the candidates, and U none of the members. A wrong result only costs time.
     fn is_shown(&self, choices: &Choices, supporters: &Worths) -> bool {
         let least = supporters.nth_greatest(choices.pool, choices.left);
         let candidates = supporters.at_least(choices.pool, least);
@@ -260,7 +261,7 @@ impl<A: Allocator + Copy> Search<'_, A> {
 
     /// What to choose next, if the voters agree on too few candidates of the pool or approve more members than U has
     /// room for: the candidate with the fewest supporters, or the member with the most. The member comes first only if
-    /// leaving it out of U costs more voters than any candidate in T can cost at least.
+    /// more voters approve it than lack the most approved of the candidates in dispute.
     fn next_choice(&self, choices: &Choices, supporters: &Worths, voters: u64) -> Finding
         ensures { IsFinding self.now.property self.now.profile.now self.now.committee self.now.level choices.now
             result }
@@ -281,7 +282,7 @@ impl<A: Allocator + Copy> Search<'_, A> {
         }
     }
 
-    /// The members that U can have, or none if it has room for all that voters approve.
+    /// The open members that voters approve, or none if U has room for all of them.
     fn disputed_members(&self, choices: &Choices, supporters: &Worths) -> CandSet
         ensures { (n : ℕ) → has_member result n ≡ true → has_member choices.now.members n ≡ true }
     {
