@@ -19,7 +19,7 @@ use ballot_base::{CandSet, Worths};
 use std::alloc::Allocator;
 
 /// The number of parts that a vote is split in.
-const UNITS: u128 = 1 << 20;
+const UNITS: u64 = 1 << 20;
 
 /// Lists T and U as far as they are chosen: T consists of `shared` and `left` candidates of the pool, and U of `within`
 /// and `room` of the open members.
@@ -157,17 +157,17 @@ impl<A: Allocator + Copy> Search<'_, A> {
     fn may_belong(&self, choices: &Choices, ballot: CandSet) -> bool
         ensures { result ≡ may_belong self.now.property self.now.committee self.now.level choices.now ballot }
     {
+        if !ballot.includes(choices.shared) || ballot.common(choices.pool).len() < choices.left {
+            return false;
+        }
         let approved = ballot.common(self.committee);
-        let is_below = match self.property {
+        match self.property {
             Property::Jr | Property::Ejr | Property::EjrPlus => approved.len() < self.level,
             Property::Pjr => {
                 let more = approved.common(choices.members).len().min(choices.room);
                 approved.len() <= approved.common(choices.within).len() + more
             }
-        };
-        ballot.includes(choices.shared)
-            && is_below
-            && ballot.common(choices.pool).len() >= choices.left
+        }
     }
 
     /// For each candidate, the number of its voters who can belong to a group of these choices.
@@ -219,7 +219,7 @@ impl<A: Allocator + Copy> Search<'_, A> {
             return false;
         }
         let charges = self.charges(choices, agreement);
-        let spare = u128::from(voters.saturating_sub(self.needed())) * UNITS;
+        let spare = u128::from(voters.saturating_sub(self.needed())) * u128::from(UNITS);
         let due = charges
             .excess(agreement.candidates, 0)
             .saturating_sub(spare);
@@ -240,7 +240,7 @@ impl<A: Allocator + Copy> Search<'_, A> {
             let obstacles = agreement.obstacles(ballot);
             let size = obstacles.len();
             if size > 0 && self.may_belong(choices, ballot) {
-                charges.add(obstacles, u128::from(count) * UNITS / u128::from(size));
+                charges.add(obstacles, u128::from(count * UNITS / u64::from(size)));
             }
         }
         charges

@@ -19,7 +19,7 @@ loop-ballot-preserved-then-may_belong g c =
     let share = row.1 * 2 ^ 20 / length against in
     let at = row_of_turn rows (c.into_iter-ballot-iterator.ensures.into_iter_gives ∙ c.ballots-ballot-items.ensures.rows) c.loop-ballot.yielded c.loop-ballot.yielded_by row c.in-Some.ensures.steps in
     let added = λ (n : ℕ).
-    rw (c.from.ensures, c.from-then-may_belong.ensures, c.len-size.ensures.count, c.obstacles-obstacles.ensures) at (c.add.ensures n) in
+    rw (c.from-then-may_belong.ensures, c.from.ensures, c.len-size.ensures.count, c.obstacles-obstacles.ensures) at (c.add.ensures n) in
     record {
       charged = λ n.
           let part = charge s.property s.committee s.level c.args.choices.now c.args.agreement.now n in
