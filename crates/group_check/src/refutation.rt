@@ -246,8 +246,9 @@ impl<A: Allocator + Copy> Search<'_, A> {
         charges
     }
 
-    /// Whether T of the most approved candidates of the pool and U of the most approved members have a large group. Where
-    /// equals do not all fit, T takes all of the candidates, and U none of the members. A wrong result only costs time.
+    /// Whether T of the most approved candidates of the pool and U of the most approved members have a large group.
+    /// Where equals do not all fit, T takes all of the candidates, and U none of the members. A wrong result only costs
+    /// time.
     fn is_shown(&self, choices: &Choices, supporters: &Worths) -> bool {
         let least = supporters.nth_greatest(choices.pool, choices.left);
         let candidates = supporters.at_least(choices.pool, least);
