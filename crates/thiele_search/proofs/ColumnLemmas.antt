@@ -111,10 +111,10 @@ pub ones-most : (n : ℕ) → n < 2 ^ 64 → count_ones n ≤ 64
 ones-most n small =
     omega (arith, ones-total n small, total-most (bit_at n) 1 64 (λ i. let h : bit_at n i < 2 = bit_at-lt n i in omega (arith, h)))
 
-and-fits : (a b : ℕ) → b < 2 ^ 64 → bit_and a b < 2 ^ 64
+pub and-fits : (a b : ℕ) → b < 2 ^ 64 → bit_and a b < 2 ^ 64
 and-fits a b small = omega (arith, and_le_r a b, small)
 
-ones-and : (a b : ℕ) → b < 2 ^ 64 → count_ones (bit_and a b) ≤ 64
+pub ones-and : (a b : ℕ) → b < 2 ^ 64 → count_ones (bit_and a b) ≤ 64
 ones-and a b small = ones-most (bit_and a b) (and-fits a b small)
 
 -- what the voters whom two words share give

@@ -1,5 +1,7 @@
 -- Under the rule of Chamberlin and Courant a set is worth the number of voters who approve one of its members.
-use Rattle.std.proofs.Common.{◌≡◌, ℕ, zero, suc, ◌+◌, ◌*◌, ◌≤◌, ◌∙◌, cond, min, sum, sum_by, take, List, [], ◌∷◌, refl, ap, arith, inl, inr, length, get_or}
+use Rattle.std.proofs.Common.{◌≡◌, ℕ, zero, suc, ◌+◌, ◌*◌, ◌≤◌, ◌∙◌, Bool, true, false, Option, cond, min, sum, sum_by, take, List, [], ◌∷◌, refl, ap, arith, inl, inr, length, get_or}
+use Rattle.std.specs.Prelude.{MatchOption}
+use Rattle.std.specs.Bool.{then_some}
 use Rattle.std.proofs.lemmas.Bool.{cases_lt, ne_eqb}
 use Rattle.std.proofs.lemmas.List.Sums.{sum_by-cons}
 use Rattle.ballot_base.specs.Limits.{most_members}
@@ -11,6 +13,11 @@ use Rattle.tie_walk.specs.Values.{Thiele, tally_value, thiele_value}
 use Rattle.tie_walk.proofs.TableLemmas.{sum-take_more}
 use Rattle.thiele_search.specs.Steps.Columns.{block_voters, total, approves_some, voter_ballot, voters_of, AreColumnsOf}
 use Rattle.thiele_search.proofs.ColumnLemmas.{total-voters, voters-sum}
+
+-- what is given if the condition holds is right, and nothing is right if it does not
+pub by-condition : (b : Bool) (free : List ℕ) (Out : Type 0) (Is : List ℕ → Type 0) → (b ≡ false → Out) → Is free → (answer : Option (List ℕ)) → answer ≡ then_some b free → MatchOption answer Out Is
+by-condition true free Out Is out is answer same = rw same is
+by-condition false free Out Is out is answer same = rw same (out refl)
 
 -- only the first hit counts
 first-alone : (w : List ℕ) (x : ℕ) → get_or w 0 0 ≡ 1 → ((i : ℕ) → get_or w (suc i) 0 ≡ 0) → sum (take x w) ≡ min x 1

@@ -5,4 +5,5 @@ mod DominanceLemmas
 mod Examples
 pub mod GainLemmas
 pub mod SymmetryLemmas
+pub mod UncoveredLemmas
 mod WholeLemmas

@@ -18,7 +18,7 @@ use ballot_base::{CandSet, Increments, MOST_MEMBERS, PLACES, Profile, ThieleRule
 use std::alloc::{AllocError, Allocator};
 
 /// The number of voters who share a word.
-const BLOCK_VOTERS: usize = 64;
+pub(crate) const BLOCK_VOTERS: usize = 64;
 
 /// The maximum number of blocks: 65,536 voters.
 const MOST_BLOCKS: usize = 1024;
@@ -31,7 +31,7 @@ const ROW_VOTERS: usize = 2;
 const LARGE_WEIGHT: u128 = 1 << 44;
 
 /// For each candidate, at its number, which of 64 voters approve it.
-type Block = [u64; PLACES];
+pub(crate) type Block = [u64; PLACES];
 
 /// The weight of each hit; the first is at index 0.
 type Weights = [u64; MOST_MEMBERS as usize];
@@ -102,7 +102,7 @@ fn add_voter(block: &mut Block, place: u32, ballot: CandSet)
 }
 
 /// Puts `count` voters with one ballot after the first `voters` voters.
-fn add_row(blocks: &mut [Block], voters: usize, ballot: CandSet, count: usize)
+pub(crate) fn add_row(blocks: &mut [Block], voters: usize, ballot: CandSet, count: usize)
     requires { voters + count ≤ length blocks.old * block_voters }
     ensures kept { length blocks.new ≡ length blocks.old }
     ensures added { (ballots : List (List ℕ)) → length ballots ≡ voters → AreColumns ballots blocks.old

@@ -24,5 +24,6 @@ mod search;
 mod symmetry;
 pub mod thiele;
 mod trials;
+mod uncovered;
 
 pub use thiele::{SearchMemory, ThieleSearch};

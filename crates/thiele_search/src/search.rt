@@ -13,6 +13,7 @@ ghost use Rattle.std.specs.Prelude.{◌≡◌, ℕ, ◌≤◌, true, false, IsTr
 ghost use Rattle.ballot_base.specs.CandSet.{has_member};
 ghost use Rattle.ballot_base.specs.Lists.{IsIncreasing};
 ghost use Rattle.ballot_base.specs.Increments.{increments};
+ghost use Rattle.ballot_base.specs.declared.increments.ThieleRule.TheVariants.{Cc};
 ghost use Rattle.tie_walk.specs.Ceilings.{gain_at};
 ghost use Rattle.tie_walk.specs.Sequences.{gain};
 ghost use Rattle.row_multipliers.specs.Steps.Narrowed.{Narrows};
@@ -25,6 +26,7 @@ use crate::dominance::Dominance;
 use crate::payoff::{FEWEST_SEATS, PAIRS_WORK, ROUND_WORK};
 use crate::thiele::ThieleSearch;
 use crate::trials::{FEW_SEATS, Uses};
+use crate::uncovered::{FEWEST_LEFT, MOST_LEFT, Uncovered};
 use ballot_base::{CandSet, Clones, ThieleRule, Worths};
 use row_multipliers::Node;
 use row_multipliers::multipliers::{self, Effort};
@@ -138,6 +140,43 @@ impl<'a, A: Allocator + Copy> ThieleSearch<'a, A> {
             return Some(node.free);
         }
         uses.note(self.by_majorants(node, least, Shape::Quadratic))
+    }
+
+    /// Like `eligible`, but by a lean search under `cc`, if few seats are left and such searches help.
+    fn by_uncovered(&self, node: &Node, least: u128) -> Option<CandSet>
+        requires is_node { IsNode self.now.election.m node.now.set node.now.free }
+        requires valued { IsValued self.now node.now.set node.now.value }
+        ensures { Narrows (tally_value self.now) self.now.election.m node.now least result }
+    {
+        let uses = &self.aids.uses.uncovered;
+        let is_few = node.left >= FEWEST_LEFT && node.left <= MOST_LEFT;
+        if self.values.rule() != ThieleRule::Cc || !is_few || !uses.are_due() {
+            return Some(node.free);
+        }
+        let may_reach = !self.is_refuted(node, least);
+        uses.note(may_reach.then_some(node.free))
+    }
+
+    /// Whether a lean search shows under `cc` that no completion of the set of a node reaches the value. Only `true` is
+    /// certain.
+    // Not inlined: its tables take 5 KB of stack, which would lie at each level of a search.
+    #[inline(never)]
+    fn is_refuted(&self, node: &Node, least: u128) -> bool
+        requires rule { self.now.rule ≡ Cc }
+        requires some { 1 ≤ self.now.k }
+        requires is_node { IsNode self.now.election.m node.now.set node.now.free }
+        requires valued { IsValued self.now node.now.set node.now.value }
+        ensures { result ≡ true → IsOutOfReach (tally_value self.now) self.now.election.m node.now.set node.now.free
+            node.now.left least }
+    {
+        let Some(due) = least.checked_sub(node.value) else {
+            return false;
+        };
+        let due = due.min(u128::from(u32::MAX));
+        match Uncovered::of(self.values.profile(), node) {
+            Some(table) => table.refutes(node.left, due as u32),
+            None => false,
+        }
     }
 
     /// Like `eligible`, but where a node is entered. Triples come last, where they pay.
@@ -267,6 +306,7 @@ impl<'a, A: Allocator + Copy> Narrowing for ThieleSearch<'a, A> {
         self.moves.enter(node.left);
         self.triples.enter(node.left);
         self.symmetries.enter(node.left);
+        self.by_uncovered(node, least)?;
         let free = self.eligible_at_entry(node, least)?;
         let gains = self.gains_at(node.set, free);
         let due = least.saturating_sub(node.value);

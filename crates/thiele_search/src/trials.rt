@@ -63,6 +63,7 @@ pub(crate) struct Uses {
     pub(crate) prices: Trials,
     pub(crate) pairs: Trials,
     pub(crate) roots: Trials,
+    pub(crate) uncovered: Trials,
 }
 
 impl Uses {
@@ -72,6 +73,7 @@ impl Uses {
             prices: Trials::none(QUICK),
             pairs: Trials::none(PAIRS),
             roots: Trials::none(ROOTS),
+            uncovered: Trials::none(QUICK),
         }
     }
 }

@@ -1,6 +1,4 @@
-use Rattle.std.proofs.Common.{◌≡◌, ◌<◌, ◌∙◌, ℕ, Bool, true, false, List, Option, refl, ap, arith, leb-false}
-use Rattle.std.specs.Prelude.{MatchOption}
-use Rattle.std.specs.Bool.{then_some}
+use Rattle.std.proofs.Common.{◌<◌, ◌∙◌, ap, arith, leb-false}
 use Rattle.tie_walk.specs.Values.{tally_value}
 use Rattle.row_multipliers.specs.Completions.{IsOutOfReach}
 use Rattle.row_multipliers.specs.Steps.Narrowed.{IsNarrowed}
@@ -8,17 +6,13 @@ use Rattle.row_multipliers.proofs.NarrowedLemmas.{narrowed-none}
 use Rattle.ballot_base.specs.CandSet.{has_member}
 use Rattle.ballot_base.specs.Increments.{increments}
 use Rattle.ballot_base.proofs.Increasing.{IsIncreasing-either, has_member-either}
+use Rattle.thiele_search.proofs.CoverLemmas.{by-condition}
 use Rattle.thiele_search.proofs.WholeLemmas.{whole-none}
 use Rattle.thiele_search.proofs.thiele.ThieleSearch.covered.Goals as goal
 
 pub value-most-requires : goal.value-most-requires
 value-most-requires g c =
     rw c.union.ensures (IsIncreasing-either 1 c.args.self.now.election.m c.args.node.now.set c.args.node.now.free c.requires.is_node.set_within c.requires.is_node.free_within)
-
--- what is given if the condition holds is right, and nothing is right if it does not
-by-condition : (b : Bool) (free : List ℕ) (Out : Type 0) (Is : List ℕ → Type 0) → (b ≡ false → Out) → Is free → (answer : Option (List ℕ)) → answer ≡ then_some b free → MatchOption answer Out Is
-by-condition true free Out Is out is answer same = rw same is
-by-condition false free Out Is out is answer same = rw same (out refl)
 
 pub returns : goal.returns
 returns g c =
