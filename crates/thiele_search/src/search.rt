@@ -179,8 +179,19 @@ impl<'a, A: Allocator + Copy> ThieleSearch<'a, A> {
         }
     }
 
-    /// Like `eligible`, but where a node is entered. Triples come last, where they pay.
+    /// Like `eligible`, but where a node is entered. A lean search under `cc` comes last: among neighbours prices end
+    /// most nodes sooner.
     fn eligible_at_entry(&self, node: &Node, least: u128) -> Option<CandSet>
+        requires is_node { IsNode self.now.election.m node.now.set node.now.free }
+        requires valued { IsValued self.now node.now.set node.now.value }
+        ensures { Narrows (tally_value self.now) self.now.election.m node.now least result }
+    {
+        let free = self.bounded_at_entry(node, least)?;
+        self.by_uncovered(&Node { free, ..*node }, least)
+    }
+
+    /// Like `eligible`, but where a node is entered. Triples come last, where they pay.
+    fn bounded_at_entry(&self, node: &Node, least: u128) -> Option<CandSet>
         requires is_node { IsNode self.now.election.m node.now.set node.now.free }
         ensures { Narrows (tally_value self.now) self.now.election.m node.now least result }
     {
@@ -306,7 +317,6 @@ impl<'a, A: Allocator + Copy> Narrowing for ThieleSearch<'a, A> {
         self.moves.enter(node.left);
         self.triples.enter(node.left);
         self.symmetries.enter(node.left);
-        self.by_uncovered(node, least)?;
         let free = self.eligible_at_entry(node, least)?;
         let gains = self.gains_at(node.set, free);
         let due = least.saturating_sub(node.value);

@@ -47,6 +47,14 @@ const PAIRS: Limits = Limits {
     sample: 256,
 };
 
+/// A lean search takes longer than a set, and a short search ends sooner without. Made from the first set on, and ahead
+/// of prices, elections of voters on a line took twice the instructions.
+const UNCOVERED: Limits = Limits {
+    begin: 1024,
+    trials: 64,
+    sample: 64,
+};
+
 /// Majorants of both shapes take as long as hundreds of sets, so they have to help at the first root: that of the whole
 /// election. Asked for at the root of each question that is not answered after 64 sets, noise round one ballot took
 /// twice the instructions.
@@ -73,7 +81,7 @@ impl Uses {
             prices: Trials::none(QUICK),
             pairs: Trials::none(PAIRS),
             roots: Trials::none(ROOTS),
-            uncovered: Trials::none(QUICK),
+            uncovered: Trials::none(UNCOVERED),
         }
     }
 }

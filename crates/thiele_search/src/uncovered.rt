@@ -109,7 +109,8 @@ impl<'a, A: Allocator + Copy> Uncovered<'a, A> {
         requires is_node { IsNode self.now.profile.now.m self.now.set self.now.free }
         ensures { (k : ℕ) → 1 ≤ k → k ≤ most_members → result ≡ true
             → IsOutOfReach (thiele_value (increments Cc k) self.now.profile.now.rows) self.now.profile.now.m
-            self.now.set self.now.free left (thiele_value (increments Cc k) self.now.profile.now.rows self.now.set + due) }
+            self.now.set self.now.free left
+            (thiele_value (increments Cc k) self.now.profile.now.rows self.now.set + due) }
     {
         if left > MOST_LEFT {
             return false;

@@ -132,7 +132,7 @@ returns g t c short k some size =
     let inv = c.loop-free.invariant in
     let V = thiele_value (increments Cc k) e.rows in
     rw (inv.set, inv.left, inv.due) at (
-      narrowed-out V e.m open_.set c.args.branch.now.free open_.free open_.left (V open_.set + open_.due) (inv.narrowed k some size)
-      (branch-narrows e open_.set open_.free c.loop-free.gains open_.left open_.due k inv.branch.valid some size inv.branch.is_node
-      (λ n is. inv.gains n is ∙ branch-gain e table.set table.free open_ k n inv.branch table.few some size is) None (rw c.in_default.is at c.wanted.ensures))
+    narrowed-out V e.m open_.set c.args.branch.now.free open_.free open_.left (V open_.set + open_.due) (inv.narrowed k some size)
+    (branch-narrows e open_.set open_.free c.loop-free.gains open_.left open_.due k inv.branch.valid some size inv.branch.is_node
+    (λ n is. inv.gains n is ∙ branch-gain e table.set table.free open_ k n inv.branch table.few some size is) None (rw c.in_default.is at c.wanted.ensures))
     )

@@ -30,12 +30,12 @@ loop-b-preserved g c =
       passed = λ set new without b i low within. elim (cases_eq b at) [
         | inl same ↦
             rw same (
-              ap (λ n. bit_at n i) (get_or-set_same c.loop-b.rest at word 0 (omega (arith, inv.long, c.loop-b-test.true)))
-              ∙ without-more (voter_ballot ballots (at * block_voters + i)) set c.args.candidate (get_or c.args.voters.now at 0) column word i
-              (uncovered-rising table.profile.now table.set table.free c.requires.valid (at * block_voters + i)) new
-              (c.others.ensures i within ∙ ap (λ n. min (bit_at n i) (1 - bit_at (get_or (get_or table.blocks at []) c.from.result 0) i)) here
-              ∙ ap (λ n. min (bit_at (get_or c.args.voters.now at 0) i) (1 - bit_at (get_or (get_or table.blocks at []) n 0) i)) c.from.ensures)
-              (without at i c.loop-b-test.true within) (table.columns at c.args.candidate i within)
+            ap (λ n. bit_at n i) (get_or-set_same c.loop-b.rest at word 0 (omega (arith, inv.long, c.loop-b-test.true)))
+            ∙ without-more (voter_ballot ballots (at * block_voters + i)) set c.args.candidate (get_or c.args.voters.now at 0) column word i
+            (uncovered-rising table.profile.now table.set table.free c.requires.valid (at * block_voters + i)) new
+            (c.others.ensures i within ∙ ap (λ n. min (bit_at n i) (1 - bit_at (get_or (get_or table.blocks at []) c.from.result 0) i)) here
+            ∙ ap (λ n. min (bit_at (get_or c.args.voters.now at 0) i) (1 - bit_at (get_or (get_or table.blocks at []) n 0) i)) c.from.ensures)
+            (without at i c.loop-b-test.true within) (table.columns at c.args.candidate i within)
             )
         | inr other ↦ ap (λ n. bit_at n i) (get_or-set_other c.loop-b.rest at b word 0 other) ∙ inv.passed set new without b i (omega (arith, low, other)) within
       ];
