@@ -50,7 +50,7 @@ const PAIRS: Limits = Limits {
 /// A lean search takes longer than a set, and a short search ends sooner without. Made from the first set on, and ahead
 /// of prices, elections of voters on a line took twice the instructions.
 const UNCOVERED: Limits = Limits {
-    begin: 1024,
+    begin: 4096,
     trials: 64,
     sample: 64,
 };
