@@ -9,6 +9,7 @@ pub mod laws;
 pub mod majorant;
 pub mod pairs;
 pub mod prices;
+mod rough;
 pub mod triples;
 
 pub use majorant::{HitSums, Shape};

@@ -20,9 +20,14 @@ ghost use Rattle.thiele_bounds.specs.Steps.Units.{most_overlap};
 
 use crate::majorant::{HitSums, Majorant};
 use crate::pairs::{TABLE_PLACES, Table, Totals, add_pairs, place};
+use crate::rough::Rough;
 use ballot_base::{CandSet, PLACES, Profile, Worths};
 use row_multipliers::Node;
 use std::alloc::Allocator;
+
+/// The number of units of worths of three in a unit of the rounded ones. So these fit into words, and take a fifth of
+/// the time.
+const ROUGHLY: u128 = 1 << 30;
 
 /// What a search looks for by triples: the ballots, what hits give, and the value that a committee has to reach.
 #[derive(Drop)]
@@ -166,26 +171,29 @@ impl Plane<'_> {
     {
         let others = self.node.free.without(self.i);
         let mut sums = Worths::none();
+        let mut rise = 0;
         for j in others.members() {
-            sums.set(j, self.sum_of_two(j));
+            sums.set(j, self.sum_of_two(j, &mut rise));
         }
         bound_of(&sums, others, self.node.left - 1)
     }
 
-    /// A bound on the worths of three that the candidate, `j` and others make.
-    fn sum_of_two(&self, j: u8) -> u128
+    /// A bound on the worths of three that the candidate, `j` and others make. `rise` is where a threshold is looked
+    /// for: about there where the last one was.
+    fn sum_of_two(&self, j: u8, rise: &mut u64) -> u128
         requires plane { IsPlane self.now }
         requires member { has_member (without_member self.now.node.now.free self.now.i) j ≡ true }
-        ensures sum { (third : ℕ) × (result ≡ sum_of_two (plane_three self.now) self.now.node.now.free
-            self.now.node.now.left (λ i j. third) self.now.i j) }
+        ensures sum { (third : ℕ) × (sum_of_two (plane_three self.now) self.now.node.now.free
+            self.now.node.now.left (λ i j. third) self.now.i j ≤ result) }
         ensures small { result ≤ 2 ^ 100 }
     {
         let others = self.node.free.without(self.i).without(j);
-        bound_of(&self.worths_with(j), others, self.node.left - 2)
+        let bound = self.worths_with(j).bound(others, self.node.left - 2, rise);
+        ROUGHLY * u128::from(bound)
     }
 
-    /// The worth of three with the candidate and `j`, for each of the others.
-    fn worths_with(&self, j: u8) -> Worths
+    /// The worth of three with the candidate and `j`, for each of the others, rounded up.
+    fn worths_with(&self, j: u8) -> Rough
         requires plane { IsPlane self.now }
         requires member { has_member (without_member self.now.node.now.free self.now.i) j ≡ true }
         ensures { AreThree self.now j result }
@@ -194,14 +202,15 @@ impl Plane<'_> {
         let factor = 3 * others * u128::from(self.node.left - 2);
         let worths = &self.totals.worths;
         let overlaps = &self.totals.overlaps;
-        let mut three = Worths::none();
+        let mut three = Rough::none();
         for l in self.node.free.without(self.i).without(j).members() {
             let overlap = u128::from(overlaps[place(self.i, j)])
                 + u128::from(overlaps[place(self.i, l)])
                 + u128::from(overlaps[place(j, l)]);
             let triple = u128::from(self.triples[place(j, l)]);
             let worth = worths.of(self.i) + worths.of(j) + worths.of(l);
-            three.set(l, worth + factor * triple + self.raise - others * overlap);
+            let worth = worth + factor * triple + self.raise - others * overlap;
+            three.set(l, (worth / ROUGHLY) as u64 + 1);
         }
         three
     }

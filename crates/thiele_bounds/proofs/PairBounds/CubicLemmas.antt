@@ -15,9 +15,9 @@ use Rattle.thiele_bounds.specs.Pairs.{all_overlap, all_worth}
 use Rattle.thiele_bounds.specs.Triples.{IsCubicMajorant, all_triples, sum_of_two, threshold_sum}
 use Rattle.thiele_bounds.specs.Steps.Cubics.{bend_at, fall_at, highest, increment_at, lack, row_constant, row_overlap, row_triple, row_worth}
 use Rattle.thiele_bounds.specs.Steps.Paired.{AreSmallSums, AreSums, most_sum}
-use Rattle.thiele_bounds.specs.Steps.Threes.{IsSumOfOne}
+use Rattle.thiele_bounds.specs.Steps.Threes.{IsSumOfOne, roughly}
 use Rattle.thiele_bounds.proofs.PairBounds.OverlapLemmas.{portion}
-use Rattle.thiele_bounds.proofs.PairBounds.PairLemmas.{sum-equal}
+use Rattle.thiele_bounds.proofs.PairBounds.PairLemmas.{sum-equal, sum-less}
 use Rattle.thiele_bounds.proofs.PairBounds.PairTotals.{hits-both}
 use Rattle.thiele_bounds.proofs.PairBounds.TripleLemmas.{part}
 
@@ -129,6 +129,19 @@ module _ (rows : List Row) (i : ℕ) (row : Row) (found : slice_get rows i ≡ S
 
 -- ---- row sums
 
+-- rounded up, the sum is no lower
+pub threshold-rough : (f g : ℕ → ℕ) (xs : List ℕ) (count t : ℕ) → ((n : ℕ) → has_member xs n ≡ true → f n ≤ roughly * g n) → threshold_sum f xs count (roughly * t) ≤ roughly * threshold_sum g xs count t
+threshold-rough f g xs count t less =
+    let turned : (a b c : ℕ) → a * (b * c) ≡ b * (a * c) = λ a b c. omega arith in
+    omega (arith, sum-less (λ n. f n - roughly * t) (λ n. roughly * (g n - t)) xs (λ n is. omega (arith, less n is)), scaled (λ n. g n - t) xs, turned count roughly t)
+  where
+    scaled : (h : ℕ → ℕ) (xs : List ℕ) → sum_by (λ n. roughly * h n) xs ≡ roughly * sum_by h xs
+    scaled h [] = refl
+    scaled h (x ∷ xs) = omega (arith, scaled h xs, sum_by-cons h x xs, sum_by-cons (λ n. roughly * h n) x xs)
+
+pub threshold-less : (f g : ℕ → ℕ) (xs : List ℕ) (count t : ℕ) → ((n : ℕ) → has_member xs n ≡ true → f n ≤ g n) → threshold_sum f xs count t ≤ threshold_sum g xs count t
+threshold-less f g xs count t less = omega (arith, sum-less (λ n. f n - t) (λ n. g n - t) xs (λ n is. omega (arith, less n is)))
+
 pub threshold-same : (f g : ℕ → ℕ) (xs : List ℕ) (count t : ℕ) → ((n : ℕ) → has_member xs n ≡ true → f n ≡ g n) → threshold_sum f xs count t ≡ threshold_sum g xs count t
 threshold-same f g xs count t same = omega (arith, sum-equal (λ n. f n - t) (λ n. g n - t) xs (λ n is. ap (λ x. x - t) (same n is)))
 
@@ -155,7 +168,10 @@ pub one-same : (three other : ℕ → ℕ → ℕ → ℕ) (free : List ℕ) (le
 one-same three other free left i sum same (third, second, is) = (
   third,
   second,
-  is
-      ∙ threshold-same (sum_of_two three free left (λ n. third) i) (sum_of_two other free left (λ n. third) i) (without_member free i) (left - 1) second
-      (λ j here. threshold-same (three i j) (other i j) (without_member (without_member free i) j) (left - 2) (third j) (λ l there. same j l here there)),
+  omega (
+    arith,
+    is,
+    threshold-same (sum_of_two three free left (λ n. third) i) (sum_of_two other free left (λ n. third) i) (without_member free i) (left - 1) second
+        (λ j here. threshold-same (three i j) (other i j) (without_member (without_member free i) j) (left - 2) (third j) (λ l there. same j l here there)),
+  ),
 )

@@ -18,7 +18,7 @@ use Rattle.thiele_bounds.specs.Steps.Threes.{AreCubics, AreRaised, IsSumOfOne, t
 use Rattle.thiele_bounds.specs.declared.pairs.Totals.{Totals}
 use Rattle.row_multipliers.proofs.CompletionLemmas.{added-free, added-increasing, added-size, member-high, without-is}
 use Rattle.thiele_bounds.proofs.PairBounds.CubicLemmas.{choose, chosen, cubics-are}
-use Rattle.thiele_bounds.proofs.PairBounds.PairLemmas.{sum-equal}
+use Rattle.thiele_bounds.proofs.PairBounds.PairLemmas.{sum-equal, sum-less}
 use Rattle.thiele_bounds.proofs.PairBounds.PairNodes.{units-low}
 use Rattle.thiele_bounds.proofs.PairBounds.TripleLemmas.{triples-bound}
 use Rattle.thiele_bounds.proofs.PairBounds.TripleSums.{threes-bound}
@@ -47,7 +47,7 @@ module _ (weights sums : List ℕ) (scale unit m : ℕ) (rows : List Row) (node 
   three = three_at totals third_of node.left raise
 
   abbrev Fits : ℕ → Thresholds → Type 0
-  Fits i t = get_or bounds i 0 ≡ sum_of_one (sum_of_two three node.free node.left (λ n. t.third)) node.free node.left (λ n. t.second) i
+  Fits i t = sum_of_one (sum_of_two three node.free node.left (λ n. t.third)) node.free node.left (λ n. t.second) i ≤ get_or bounds i 0
 
   some : (i : ℕ) → has_member node.free i ≡ true → (t : Thresholds) × Fits i t
   some i here = let is = bounds_are i here in (record { third = is.0; second = is.1 }, is.2)
@@ -95,9 +95,9 @@ module _ (weights sums : List ℕ) (scale unit m : ℕ) (rows : List Row) (node 
         let law = threes-bound (slice_index totals.worths) (overlap_at totals.overlaps) third_of m node.left raise (λ i. (thresholds i).third) (λ i. (thresholds i).second) node.free more (omega (arith, raised.several))
         is_node.free_within (added-increasing m node.set node.free node.left committee is_node whole) (added-size m node.set node.free node.left committee is_node whole) free-is
         (λ i j. ap (slice_index totals.overlaps) (place-turned i j)) three-enough in
-        let same : sum_by (λ n. get_or bounds n 0) more
-        ≡ sum_by (sum_of_one (sum_of_two three node.free node.left (λ i. (thresholds i).third)) node.free node.left (λ i. (thresholds i).second)) more =
-        sum-equal (λ n. get_or bounds n 0) (sum_of_one (sum_of_two three node.free node.left (λ i. (thresholds i).third)) node.free node.left (λ i. (thresholds i).second)) more
+        let bounded : sum_by (sum_of_one (sum_of_two three node.free node.left (λ i. (thresholds i).third)) node.free node.left (λ i. (thresholds i).second)) more
+        ≤ sum_by (λ n. get_or bounds n 0) more =
+        sum-less (sum_of_one (sum_of_two three node.free node.left (λ i. (thresholds i).third)) node.free node.left (λ i. (thresholds i).second)) (λ n. get_or bounds n 0) more
         (λ n here. chosen Fits node.free (record { third = λ n. 0; second = 0 }) some n (free-is n here)) in
         let product : factor * (needed + sum_of_pairs (overlap_at totals.overlaps) more) ≤ factor * (totals.constant + (sum_by (slice_index totals.worths) more + sum_of_triples third_of more)) =
         mul-le-mul_left factor reach-low in
@@ -105,7 +105,7 @@ module _ (weights sums : List ℕ) (scale unit m : ℕ) (rows : List Row) (node 
         omega (
           arith,
           law,
-          same,
+          bounded,
           product,
           spread factor needed (sum_of_pairs (overlap_at totals.overlaps) more),
           spread factor totals.constant (sum_by (slice_index totals.worths) more + sum_of_triples third_of more),

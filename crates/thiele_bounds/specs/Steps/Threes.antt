@@ -6,7 +6,7 @@ use Rattle.ballot_base.specs.Limits.{most_candidates}
 use Rattle.ballot_base.specs.Lists.{IsIncreasing}
 use Rattle.row_multipliers.specs.declared.node.Node.{Node}
 use Rattle.thiele_bounds.specs.Pairs.{all_constants, all_overlap, all_worth}
-use Rattle.thiele_bounds.specs.Triples.{all_triples, sum_of_one, sum_of_two, worth_of_three}
+use Rattle.thiele_bounds.specs.Triples.{all_triples, sum_of_one, sum_of_two, threshold_sum, worth_of_three}
 use Rattle.thiele_bounds.specs.Steps.Cubics.{row_constant, row_overlap, row_triple, row_worth}
 use Rattle.thiele_bounds.specs.Steps.Paired.{overlap_at}
 use Rattle.thiele_bounds.specs.Steps.Totals.{AreSmall}
@@ -33,10 +33,10 @@ abbrev pub three_at : Totals → (ℕ → ℕ → ℕ → ℕ) → ℕ → ℕ �
 three_at totals triple left raise =
     worth_of_three (slice_index totals.worths) (overlap_at totals.overlaps) triple left raise
 
--- a row sum of row sums, by some thresholds
+-- at least a row sum of row sums, by some thresholds
 abbrev pub IsSumOfOne : (ℕ → ℕ → ℕ → ℕ) → List ℕ → ℕ → ℕ → ℕ → Type 0
 IsSumOfOne three free left i sum = (third : ℕ → ℕ) × (second : ℕ)
-    × (sum ≡ sum_of_one (sum_of_two three free left (λ i. third)) free left (λ i. second) i)
+    × (sum_of_one (sum_of_two three free left (λ i. third)) free left (λ i. second) i ≤ sum)
 
 -- worths are raised enough, and not too much
 pub record AreRaised (totals : Totals) (left raise : ℕ) : Type 0 where
@@ -59,8 +59,20 @@ abbrev pub plane_three : Plane → ℕ → ℕ → ℕ → ℕ
 plane_three plane =
     three_at plane.totals.now (λ i. overlap_at plane.triples.now) plane.node.now.left plane.raise
 
--- the worth of each of the others with the candidate and j, none too large
-pub record AreThree (plane : Plane) (j : ℕ) (worths : List ℕ) : Type 0 where
-  pub made : (l : ℕ) → has_member (without_member (without_member plane.node.now.free plane.i) j) l ≡ true
-      → slice_index worths l ≡ plane_three plane plane.i j l
-  pub small : (l : ℕ) → slice_index worths l ≤ 2 ^ 84
+-- how many units of worths of three a unit of the rounded ones has
+abbrev pub roughly : ℕ
+roughly = 2 ^ 30
+
+-- the most that a rounded worth can be
+abbrev pub most_rough : ℕ
+most_rough = 2 ^ 55
+
+-- at least the worth of each of the others with the candidate and j
+abbrev pub AreThree : Plane → ℕ → List ℕ → Type 0
+AreThree plane j worths = (l : ℕ) → has_member (without_member (without_member plane.node.now.free plane.i) j) l ≡ true
+    → plane_three plane plane.i j l ≤ roughly * slice_index worths l
+
+-- a bound on the sum of the worths of `count` of the candidates, by some threshold
+abbrev pub IsBound : List ℕ → List ℕ → ℕ → ℕ → Type 0
+IsBound worths candidates count sum =
+    (threshold : ℕ) × (sum ≡ threshold_sum (slice_index worths) candidates count threshold)

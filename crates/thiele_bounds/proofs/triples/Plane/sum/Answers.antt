@@ -1,4 +1,4 @@
-use Rattle.std.proofs.Common.{◌≡◌, ℕ, ◌-◌, ◌^◌, ◌∙◌, true, false, sym, ap, arith, get_or}
+use Rattle.std.proofs.Common.{◌≡◌, ℕ, ◌-◌, ◌^◌, ◌≤◌, ◌∙◌, true, false, sym, ap, arith, get_or}
 use Rattle.std.specs.Prelude.{slice_index}
 use Rattle.ballot_base.specs.CandSet.{has_member, without_member}
 use Rattle.ballot_base.specs.Limits.{most_candidates}
@@ -6,7 +6,7 @@ use Rattle.thiele_bounds.specs.Triples.{sum_of_two, threshold_sum}
 use Rattle.thiele_bounds.specs.Steps.Threes.{plane_three}
 use Rattle.row_multipliers.proofs.MemberLemmas.{first-in, first-low, later-in}
 use Rattle.row_multipliers.proofs.SearchLemmas.{rest-increasing}
-use Rattle.thiele_bounds.proofs.PairBounds.CubicLemmas.{choose, chosen, threshold-same}
+use Rattle.thiele_bounds.proofs.PairBounds.CubicLemmas.{choose, chosen, threshold-less}
 use Rattle.thiele_bounds.proofs.PairBounds.OverlapLemmas.{one-made, one-most}
 use Rattle.thiele_bounds.proofs.PairBounds.TripleLemmas.{rest-rises}
 use Rattle.thiele_bounds.proofs.triples.Plane.sum.Goals as goal
@@ -45,7 +45,7 @@ loop-j-preserved c =
       rises = (rest-increasing most_candidates rest c.next.new.self first c.in-Some.ensures.steps inv.rises).1;
       among = λ x is. inv.among x (later-in rest c.next.new.self first c.in-Some.ensures.steps inv.rises x is);
       made = one-made rest c.next.new.self first c.in-Some.ensures.steps inv.rises c.loop-j.sums c.set.new.self c.sum_of_two.result c.set.ensures
-          (λ x n. (third : ℕ) × (n ≡ sum_of_two (plane_three self) self.node.now.free self.node.now.left (λ i j. third) self.i x)) (without_member self.node.now.free self.i) c.sum_of_two.ensures.sum inv.made;
+          (λ x n. (third : ℕ) × (sum_of_two (plane_three self) self.node.now.free self.node.now.left (λ i j. third) self.i x ≤ n)) (without_member self.node.now.free self.i) c.sum_of_two.ensures.sum inv.made;
       small = one-most rest c.next.new.self first c.in-Some.ensures.steps inv.rises c.loop-j.sums c.set.new.self c.sum_of_two.result c.set.ensures (2 ^ 100) c.sum_of_two.ensures.small inv.small;
     }
 
@@ -61,14 +61,18 @@ returns-clause-sum c =
     let sums = c.loop-j.sums in
     let others = without_member self.node.now.free self.i in
     let sum = c.bound_of.ensures.sum in
-    let some : (x : ℕ) → has_member others x ≡ true → (third : ℕ) × (get_or sums x 0 ≡ sum_of_two (plane_three self) self.node.now.free self.node.now.left (λ i j. third) self.i x) =
+    let some : (x : ℕ) → has_member others x ≡ true → (third : ℕ) × (sum_of_two (plane_three self) self.node.now.free self.node.now.left (λ i j. third) self.i x ≤ get_or sums x 0) =
     λ x here. c.loop-j.invariant.made x here (ap (λ xs. has_member xs x) c.in-None.ensures.steps.0) in
-    let third : ℕ → ℕ = choose (λ x t. get_or sums x 0 ≡ sum_of_two (plane_three self) self.node.now.free self.node.now.left (λ i j. t) self.i x) others 0 some in (
+    let third : ℕ → ℕ = choose (λ x t. sum_of_two (plane_three self) self.node.now.free self.node.now.left (λ i j. t) self.i x ≤ get_or sums x 0) others 0 some in (
       third,
       sum.0,
-      sum.1 ∙ ap (λ xs. threshold_sum (slice_index sums) xs (self.node.now.left - 1) sum.0) c.without-others.ensures
-          ∙ threshold-same (slice_index sums) (sum_of_two (plane_three self) self.node.now.free self.node.now.left (λ n. third) self.i) others (self.node.now.left - 1) sum.0
-          (λ x here. chosen (λ y t. get_or sums y 0 ≡ sum_of_two (plane_three self) self.node.now.free self.node.now.left (λ i j. t) self.i y) others 0 some x here),
+      omega (
+        arith,
+        sum.1,
+        ap (λ xs. threshold_sum (slice_index sums) xs (self.node.now.left - 1) sum.0) c.without-others.ensures,
+        threshold-less (sum_of_two (plane_three self) self.node.now.free self.node.now.left (λ n. third) self.i) (slice_index sums) others (self.node.now.left - 1) sum.0
+            (λ x here. chosen (λ y t. sum_of_two (plane_three self) self.node.now.free self.node.now.left (λ i j. t) self.i y ≤ get_or sums y 0) others 0 some x here),
+      ),
     )
 
 pub returns-clause-small : goal.returns-clause-small

@@ -12,6 +12,6 @@ invariant-loop-j l = record {
   rises : IsIncreasing 1 most_candidates l.j-iterator;
   among : (x : ℕ) → has_member l.j-iterator x ≡ true → has_member (without_member l.self.node.now.free l.self.i) x ≡ true;
   made : (x : ℕ) → has_member (without_member l.self.node.now.free l.self.i) x ≡ true → has_member l.j-iterator x ≡ false
-      → (third : ℕ) × (get_or l.sums x 0 ≡ sum_of_two (plane_three l.self) l.self.node.now.free l.self.node.now.left (λ i j. third) l.self.i x);
+      → (third : ℕ) × (sum_of_two (plane_three l.self) l.self.node.now.free l.self.node.now.left (λ i j. third) l.self.i x ≤ get_or l.sums x 0);
   small : (x : ℕ) → get_or l.sums x 0 ≤ 2 ^ 100;
 }

@@ -1,13 +1,13 @@
-use Rattle.std.proofs.Common.{rules, ◌≡◌, ℕ, ◌+◌, ◌-◌, ◌*◌, ◌^◌, ◌≤◌, ◌∙◌, true, false, sym, ap, arith, get_or}
+use Rattle.std.proofs.Common.{rules, ◌≡◌, ℕ, ◌+◌, ◌-◌, ◌*◌, ◌/◌, ◌^◌, ◌≤◌, ◌∙◌, true, false, sym, ap, arith, get_or}
 use Rattle.std.proofs.Math.Nat.{mul-le-mul}
 use Rattle.ballot_base.specs.CandSet.{has_member, without_member}
 use Rattle.ballot_base.specs.Limits.{most_candidates}
 use Rattle.thiele_bounds.specs.Steps.Paired.{overlap_at}
-use Rattle.thiele_bounds.specs.Steps.Threes.{three_at}
+use Rattle.thiele_bounds.specs.Steps.Threes.{roughly, three_at}
 use Rattle.row_multipliers.proofs.CompletionLemmas.{member-high, without-is}
 use Rattle.row_multipliers.proofs.MemberLemmas.{first-low}
 use Rattle.row_multipliers.proofs.SearchLemmas.{rest-increasing}
-use Rattle.thiele_bounds.proofs.PairBounds.OverlapLemmas.{one-made, one-most, pair-within}
+use Rattle.thiele_bounds.proofs.PairBounds.OverlapLemmas.{one-made, pair-within}
 use Rattle.thiele_bounds.proofs.triples.Plane.worths_with.Goals as goal
 use Rattle.thiele_bounds.proofs.triples.Plane.worths_with.Goals.{After-next, After-of-in-loop-l-2}
 
@@ -27,7 +27,6 @@ loop-l-init c =
     rw all record {
       rises = c.members-l-items.ensures.valid;
       made = λ x in_ out. absurd (let e : true ≡ false = sym in_ ∙ ap (λ xs. has_member xs x) (sym are) ∙ out in cc);
-      small = λ x. omega (arith, c.none-three.ensures x);
     }
 
 pub bounds-overlaps-place : goal.bounds-overlaps-place
@@ -115,6 +114,12 @@ overflow_sub-worth c =
     let low = (goal.at.overflow_sub-worth c).After-next in
     omega (arith, overlaps-read at, c.requires.plane.raised.enough c.args.self.now.i c.args.j c.in-Some.l (i-low low) (j-low low) (l-low at))
 
+pub overflow_cast-worth : goal.overflow_cast-worth
+overflow_cast-worth c = let small = worth-small (goal.at.overflow_cast-worth c).After-of-in-loop-l-2 in omega (arith, small)
+
+pub overflow_add-worth-in-loop-l-4 : goal.overflow_add-worth-in-loop-l-4
+overflow_add-worth-in-loop-l-4 c = let small = worth-small (goal.at.overflow_add-worth-in-loop-l-4 c).After-of-in-loop-l-2 in omega (arith, small)
+
 pub set-requires-clause-candidate : goal.set-requires-clause-candidate
 set-requires-clause-candidate c = first-low c.loop-l.l-iterator c.next.new.self c.in-Some.l c.in-Some.ensures.steps c.loop-l.invariant.rises
 
@@ -133,15 +138,12 @@ loop-l-preserved c =
     - c.from-others.result * (c.from-in-loop-l.result + c.from-in-loop-l-2.result + c.from-in-loop-l-3.result) in
     let is : v ≡ three_at self.totals.now (λ n. overlap_at self.triples.now) self.node.now.left self.raise self.i c.args.j first =
     omega (arith, c.of.ensures.value, c.of-in-loop-l.ensures.value, c.of-in-loop-l-2.ensures.value, triple-read at, overlaps-read at) in
+    let up : three_at self.totals.now (λ n. overlap_at self.triples.now) self.node.now.left self.raise self.i c.args.j first ≤ roughly * (v / roughly + 1) = omega (arith, is) in
     record {
       rises = (rest-increasing most_candidates rest c.next.new.self first c.in-Some.ensures.steps inv.rises).1;
-      made = one-made rest c.next.new.self first c.in-Some.ensures.steps inv.rises c.loop-l.three c.set.new.self v c.set.ensures
-          (λ x n. n ≡ three_at self.totals.now (λ y. overlap_at self.triples.now) self.node.now.left self.raise self.i c.args.j x) free is inv.made;
-      small = one-most rest c.next.new.self first c.in-Some.ensures.steps inv.rises c.loop-l.three c.set.new.self v c.set.ensures (2 ^ 84) (omega (arith, worth-small at)) inv.small;
+      made = one-made rest c.next.new.self first c.in-Some.ensures.steps inv.rises c.loop-l.three c.set.new.self (v / roughly + 1) c.set.ensures
+          (λ x n. three_at self.totals.now (λ y. overlap_at self.triples.now) self.node.now.left self.raise self.i c.args.j x ≤ roughly * n) free up inv.made;
     }
 
 pub returns : goal.returns
-returns c = record {
-  made = λ x in_. c.loop-l.invariant.made x in_ (ap (λ xs. has_member xs x) c.in-None.ensures.steps.0);
-  small = c.loop-l.invariant.small;
-}
+returns c x in_ = c.loop-l.invariant.made x in_ (ap (λ xs. has_member xs x) c.in-None.ensures.steps.0)

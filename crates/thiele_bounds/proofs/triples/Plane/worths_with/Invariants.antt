@@ -1,9 +1,9 @@
-use Rattle.std.proofs.Common.{◌≡◌, ℕ, ◌^◌, ◌≤◌, true, false, get_or}
+use Rattle.std.proofs.Common.{◌≡◌, ℕ, ◌*◌, ◌≤◌, true, false, get_or}
 use Rattle.ballot_base.specs.CandSet.{has_member, without_member}
 use Rattle.ballot_base.specs.Limits.{most_candidates}
 use Rattle.ballot_base.specs.Lists.{IsIncreasing}
 use Rattle.thiele_bounds.specs.Steps.Paired.{overlap_at}
-use Rattle.thiele_bounds.specs.Steps.Threes.{three_at}
+use Rattle.thiele_bounds.specs.Steps.Threes.{roughly, three_at}
 use Rattle.thiele_bounds.proofs.triples.Plane.worths_with.Given as goal
 
 -- the worths of those who were passed
@@ -11,6 +11,5 @@ abbrev pub invariant-loop-l : goal.invariant-loop-l
 invariant-loop-l l = record {
   rises : IsIncreasing 1 most_candidates l.l-iterator;
   made : (x : ℕ) → has_member (without_member (without_member l.self.node.now.free l.self.i) l.j) x ≡ true → has_member l.l-iterator x ≡ false
-      → get_or l.three x 0 ≡ three_at l.self.totals.now (λ i. overlap_at l.self.triples.now) l.self.node.now.left l.self.raise l.self.i l.j x;
-  small : (x : ℕ) → get_or l.three x 0 ≤ 2 ^ 84;
+      → three_at l.self.totals.now (λ i. overlap_at l.self.triples.now) l.self.node.now.left l.self.raise l.self.i l.j x ≤ roughly * get_or l.three x 0;
 }

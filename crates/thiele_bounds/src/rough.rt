@@ -1,0 +1,138 @@
+//! Worths in a coarse unit, and bounds on what some of the candidates are worth together.
+//!
+//! Any threshold bounds this: each of them brings the threshold, and the excess of its worth. The bound is least if the
+//! threshold is the worth of the last of the best. A threshold about there is found in two or three passes.
+ghost use Rattle.std.specs.Prelude.{◌≡◌, ℕ, ◌-◌, ◌*◌, ◌≤◌, ◌==◌, List, slice_index, sum_by, if◌then◌else◌};
+ghost use Rattle.ballot_base.specs.Limits.{most_candidates};
+ghost use Rattle.thiele_bounds.specs.Steps.Threes.{IsBound, most_rough};
+
+use ballot_base::{CandSet, PLACES};
+use std::marker::Model;
+
+/// The maximum of a worth. Even 255 thresholds and 64 worths fit into a word.
+const MOST_ROUGH: u64 = 1 << 55;
+
+/// The maximum number of thresholds that are tried.
+const TURNS: u8 = 4;
+
+/// The worth of each candidate, at most 2^55. Contracts see the list of the worths, each at the candidate's number.
+#[derive(Drop)]
+pub(crate) struct Rough {
+    each: [u64; PLACES],
+}
+
+impl Model for Rough {
+    ghost Value = { List ℕ };
+
+    ghost view = { λ rough. rough.each };
+
+    ghost invariant = { λ rough. (n : ℕ) → slice_index rough.each n ≤ most_rough };
+}
+
+impl Rough {
+    /// Every worth is 0.
+    pub(crate) fn none() -> Rough
+        ensures { (n : ℕ) → slice_index result n ≡ 0 }
+    {
+        Rough { each: [0; PLACES] }
+    }
+
+    /// Sets the worth of a candidate.
+    pub(crate) fn set(&mut self, candidate: u8, worth: u64)
+        requires candidate { candidate ≤ most_candidates }
+        requires small { worth ≤ most_rough }
+        ensures { (n : ℕ) → slice_index self.new n ≡ (if n == candidate then worth else slice_index self.old n) }
+    {
+        self.each[usize::from(candidate)] = worth;
+    }
+
+    /// A bound on the sum of the worths of `count` of the candidates, by a threshold that is nearly the best. `rise` is
+    /// how far such a threshold lies above the mean worth, or below it, modulo 2^64: at first a guess, and at last what
+    /// was found.
+    pub(crate) fn bound(&self, candidates: CandSet, count: u8, rise: &mut u64) -> u64
+        ensures { IsBound self.now candidates count result }
+    {
+        let many = u64::from(candidates.len().max(1));
+        let mean = self.excess(candidates, 0).more / many;
+        let guess = mean.wrapping_add(*rise);
+        let mut last = self.tried(candidates, count, guess.min(MOST_ROUGH));
+        let mut least = last;
+        for _turn in 1..TURNS {
+            if last.above == count || last.above.saturating_add(1) == count {
+                break;
+            }
+            last = self.tried(candidates, count, last.nearer(count, mean));
+            if last.sum < least.sum {
+                least = last;
+            }
+        }
+        *rise = least.threshold.wrapping_sub(mean);
+        least.sum
+    }
+
+    /// The bound by a threshold.
+    fn tried(&self, candidates: CandSet, count: u8, threshold: u64) -> Tried
+        requires { threshold ≤ most_rough }
+        ensures { IsBound self.now candidates count result.sum }
+    {
+        let excess = self.excess(candidates, threshold);
+        Tried {
+            sum: u64::from(count) * threshold + excess.more,
+            threshold,
+            more: excess.more,
+            above: excess.above,
+        }
+    }
+
+    /// By how much the worths of these candidates exceed a threshold.
+    fn excess(&self, candidates: CandSet, threshold: u64) -> Excess
+        ensures more { result.more ≡ sum_by (λ n. slice_index self.now n - threshold) candidates }
+        ensures small { result.more ≤ most_candidates * most_rough }
+    {
+        let mut more = 0;
+        let mut above: u8 = 0;
+        for candidate in candidates.members() {
+            let worth = self.each[usize::from(candidate)];
+            more += worth.saturating_sub(threshold);
+            above = above.wrapping_add(u8::from(worth > threshold));
+        }
+        Excess { more, above }
+    }
+}
+
+/// What exceeds a threshold: in all, and how many worths.
+#[derive(Clone, Copy)]
+struct Excess {
+    more: u64,
+    above: u8,
+}
+
+/// A bound by a threshold, and what exceeded it.
+#[derive(Clone, Copy)]
+struct Tried {
+    sum: u64,
+    threshold: u64,
+    more: u64,
+    above: u8,
+}
+
+impl Tried {
+    /// The threshold that `count` worths exceed, if those above this one are spread evenly. If there are none, it is
+    /// the mean.
+    fn nearer(self, count: u8, mean: u64) -> u64
+        ensures { result ≤ most_rough }
+    {
+        let above = u64::from(self.above);
+        let step = (self.more / (above * above + 1)).saturating_mul(2).max(1);
+        let threshold = if above == 0 {
+            mean
+        } else if self.above > count {
+            let many = u64::from(self.above - count);
+            self.threshold.saturating_add(step.saturating_mul(many))
+        } else {
+            let many = u64::from(count - self.above);
+            self.threshold.saturating_sub(step.saturating_mul(many))
+        };
+        threshold.min(MOST_ROUGH)
+    }
+}
