@@ -198,18 +198,19 @@ impl Plane<'_> {
         requires member { has_member (without_member self.now.node.now.free self.now.i) j ≡ true }
         ensures { AreThree self.now j result }
     {
-        let others = u128::from(self.node.left - 1);
-        let factor = 3 * others * u128::from(self.node.left - 2);
+        let others = u64::from(self.node.left - 1);
+        let factor = 3 * others * u64::from(self.node.left - 2);
         let worths = &self.totals.worths;
         let overlaps = &self.totals.overlaps;
         let mut three = Rough::none();
         for l in self.node.free.without(self.i).without(j).members() {
-            let overlap = u128::from(overlaps[place(self.i, j)])
-                + u128::from(overlaps[place(self.i, l)])
-                + u128::from(overlaps[place(j, l)]);
-            let triple = u128::from(self.triples[place(j, l)]);
+            let overlap = overlaps[place(self.i, j)]
+                + overlaps[place(self.i, l)]
+                + overlaps[place(j, l)];
+            let triple = self.triples[place(j, l)];
             let worth = worths.of(self.i) + worths.of(j) + worths.of(l);
-            let worth = worth + factor * triple + self.raise - others * overlap;
+            let worth = worth + u128::from(factor) * u128::from(triple) + self.raise
+                - u128::from(others) * u128::from(overlap);
             three.set(l, (worth / ROUGHLY) as u64 + 1);
         }
         three

@@ -9,7 +9,7 @@ use Rattle.row_multipliers.proofs.MemberLemmas.{first-low}
 use Rattle.row_multipliers.proofs.SearchLemmas.{rest-increasing}
 use Rattle.thiele_bounds.proofs.PairBounds.OverlapLemmas.{one-made, pair-within}
 use Rattle.thiele_bounds.proofs.triples.Plane.worths_with.Goals as goal
-use Rattle.thiele_bounds.proofs.triples.Plane.worths_with.Goals.{After-next, After-of-in-loop-l-2}
+use Rattle.thiele_bounds.proofs.triples.Plane.worths_with.Goals.{After-next, After-from-in-loop-l-4}
 
 -- each candidate has a place
 i-low : (c : After-next) → c.args.self.now.i ≤ most_candidates
@@ -59,40 +59,40 @@ pub of-requires-in-loop-l-2 : goal.of-requires-in-loop-l-2
 of-requires-in-loop-l-2 c = first-low c.loop-l.l-iterator c.next.new.self c.in-Some.l c.in-Some.ensures.steps c.loop-l.invariant.rises
 
 -- what is read of the totals
-abbrev overlaps-of : After-of-in-loop-l-2 → ℕ
+abbrev overlaps-of : After-from-in-loop-l-4 → ℕ
 overlaps-of c = overlap_at c.args.self.now.totals.now.overlaps c.args.self.now.i c.args.j + overlap_at c.args.self.now.totals.now.overlaps c.args.self.now.i c.in-Some.l + overlap_at c.args.self.now.totals.now.overlaps c.args.j c.in-Some.l
 
-overlaps-read : (c : After-of-in-loop-l-2)
-    → c.from-others.result * (c.from-in-loop-l.result + c.from-in-loop-l-2.result + c.from-in-loop-l-3.result) ≡ (c.args.self.now.node.now.left - 1) * overlaps-of c
+overlaps-read : (c : After-from-in-loop-l-4) → c.from-in-loop-l-3.result * c.from-in-loop-l-4.result ≡ (c.args.self.now.node.now.left - 1) * overlaps-of c
 overlaps-read c =
     let table = c.args.self.now.totals.now.overlaps in
-    let one : c.from-in-loop-l.result ≡ overlap_at table c.args.self.now.i c.args.j = c.from-in-loop-l.ensures ∙ ap (λ n. get_or table n 0) c.place.ensures in
-    let two : c.from-in-loop-l-2.result ≡ overlap_at table c.args.self.now.i c.in-Some.l = c.from-in-loop-l-2.ensures ∙ ap (λ n. get_or table n 0) c.place-in-loop-l.ensures in
-    let third : c.from-in-loop-l-3.result ≡ overlap_at table c.args.j c.in-Some.l = c.from-in-loop-l-3.ensures ∙ ap (λ n. get_or table n 0) c.place-in-loop-l-2.ensures in
-    let all : c.from-in-loop-l.result + c.from-in-loop-l-2.result + c.from-in-loop-l-3.result ≡ overlaps-of c = omega (arith, one, two, third) in
-    ap (λ n. n * (c.from-in-loop-l.result + c.from-in-loop-l-2.result + c.from-in-loop-l-3.result)) c.from-others.ensures ∙ ap (λ n. (c.args.self.now.node.now.left - 1) * n) all
+    let read : ℕ → ℕ = λ n. get_or table n 0 in
+    let all : c.from-in-loop-l-4.result ≡ overlaps-of c = omega (arith, c.from-in-loop-l-4.ensures, ap read c.place.ensures, ap read c.place-in-loop-l.ensures, ap read c.place-in-loop-l-2.ensures) in
+    let others : c.from-in-loop-l-3.result ≡ c.args.self.now.node.now.left - 1 = c.from-in-loop-l-3.ensures ∙ c.from-others.ensures in
+    ap (λ n. n * c.from-in-loop-l-4.result) others ∙ ap (λ n. (c.args.self.now.node.now.left - 1) * n) all
 
-triple-read : (c : After-of-in-loop-l-2)
-    → 3 * c.from-others.result * c.from.result * c.from-triple.result ≡ 3 * (c.args.self.now.node.now.left - 1) * (c.args.self.now.node.now.left - 2) * overlap_at c.args.self.now.triples.now c.args.j c.in-Some.l
+triple-read : (c : After-from-in-loop-l-4)
+    → c.from-in-loop-l.result * c.from-in-loop-l-2.result ≡ 3 * (c.args.self.now.node.now.left - 1) * (c.args.self.now.node.now.left - 2) * overlap_at c.args.self.now.triples.now c.args.j c.in-Some.l
 triple-read c =
-    let value : c.from-triple.result ≡ overlap_at c.args.self.now.triples.now c.args.j c.in-Some.l = c.from-triple.ensures ∙ ap (λ n. get_or c.args.self.now.triples.now n 0) c.place-in-loop-l-3.ensures in
-    ap (λ n. 3 * n * c.from.result * c.from-triple.result) c.from-others.ensures
-    ∙ ap (λ n. 3 * (c.args.self.now.node.now.left - 1) * n * c.from-triple.result) c.from.ensures
-    ∙ ap (λ n. 3 * (c.args.self.now.node.now.left - 1) * (c.args.self.now.node.now.left - 2) * n) value
+    let left = c.args.self.now.node.now.left in
+    let factor : c.from-in-loop-l.result ≡ 3 * (left - 1) * (left - 2) =
+    c.from-in-loop-l.ensures ∙ ap (λ n. 3 * n * c.from.result) c.from-others.ensures ∙ ap (λ n. 3 * (left - 1) * n) c.from.ensures in
+    let value : c.from-in-loop-l-2.result ≡ overlap_at c.args.self.now.triples.now c.args.j c.in-Some.l = c.from-in-loop-l-2.ensures ∙ ap (λ n. get_or c.args.self.now.triples.now n 0) c.place-in-loop-l-3.ensures in
+    ap (λ n. n * c.from-in-loop-l-2.result) factor ∙ ap (λ n. 3 * (left - 1) * (left - 2) * n) value
 
-l-low : (c : After-of-in-loop-l-2) → c.in-Some.l ≤ most_candidates
+l-low : (c : After-from-in-loop-l-4) → c.in-Some.l ≤ most_candidates
 l-low c = first-low c.loop-l.l-iterator c.next.new.self c.in-Some.l c.in-Some.ensures.steps c.loop-l.invariant.rises
 
 -- the worth before the overlaps are taken off is not too large
-worth-small : (c : After-of-in-loop-l-2)
-    → c.of.result + c.of-in-loop-l.result + c.of-in-loop-l-2.result + 3 * c.from-others.result * c.from.result * c.from-triple.result + c.args.self.now.raise ≤ 2 ^ 84
+worth-small : (c : After-from-in-loop-l-4)
+    → c.of.result + c.of-in-loop-l.result + c.of-in-loop-l-2.result + c.from-in-loop-l.result * c.from-in-loop-l-2.result + c.args.self.now.raise ≤ 2 ^ 84
 worth-small c =
     let small = c.requires.plane.raised.small in
     let few = c.requires.plane.raised.few in
     let others : 3 * c.from-others.result ≤ 768 = omega (arith, c.from-others.ensures, few) in
-    let factor : 3 * c.from-others.result * c.from.result ≤ 768 * 256 = mul-le-mul others (let less : c.from.result ≤ 256 = omega (arith, c.from.ensures, few) in less) in
-    let triple : c.from-triple.result ≤ 2 ^ 64 = triple-fits c in
-    let triples : 3 * c.from-others.result * c.from.result * c.from-triple.result ≤ 768 * 256 * 2 ^ 64 = mul-le-mul factor triple in
+    let product : 3 * c.from-others.result * c.from.result ≤ 768 * 256 = mul-le-mul others (let less : c.from.result ≤ 256 = omega (arith, c.from.ensures, few) in less) in
+    let factor : c.from-in-loop-l.result ≤ 768 * 256 = omega (arith, c.from-in-loop-l.ensures, product) in
+    let triple : c.from-in-loop-l-2.result ≤ 2 ^ 64 = triple-fits c in
+    let triples : c.from-in-loop-l.result * c.from-in-loop-l-2.result ≤ 768 * 256 * 2 ^ 64 = mul-le-mul factor triple in
     omega (
       arith,
       c.of.ensures.value,
@@ -105,37 +105,71 @@ worth-small c =
       c.requires.plane.raised.raise_small,
     )
   where
-    triple-fits : (c : After-of-in-loop-l-2) → c.from-triple.result ≤ 2 ^ 64
+    triple-fits : (c : After-from-in-loop-l-4) → c.from-in-loop-l-2.result ≤ 2 ^ 64
     triple-fits c = search rules
+
+-- the overlaps fit
+overlaps-small : (c : After-from-in-loop-l-4) → c.args.self.now.i ≤ most_candidates → c.args.j ≤ most_candidates → (c.args.self.now.node.now.left - 1) * overlaps-of c ≤ 2 ^ 70
+overlaps-small c one other = omega (arith, c.requires.plane.raised.enough c.args.self.now.i c.args.j c.in-Some.l one other (l-low c), c.requires.plane.raised.raise_small)
+
+pub overflow_add-overlap : goal.overflow_add-overlap
+overflow_add-overlap c =
+    let at = (goal.at.overflow_add-overlap c).After-next in
+    let low = first-low c.loop-l.l-iterator c.next.new.self c.in-Some.l c.in-Some.ensures.steps c.loop-l.invariant.rises in
+    let read : ℕ → ℕ = λ n. get_or c.args.self.now.totals.now.overlaps n 0 in
+    let small = c.requires.plane.raised.small.overlaps_small in
+    omega (arith, ap read c.place.ensures, ap read c.place-in-loop-l.ensures, small c.args.self.now.i c.args.j (j-low at), small c.args.self.now.i c.in-Some.l low)
+
+pub overflow_add-overlap-in-loop-l : goal.overflow_add-overlap-in-loop-l
+overflow_add-overlap-in-loop-l c =
+    let at = (goal.at.overflow_add-overlap-in-loop-l c).After-next in
+    let low = first-low c.loop-l.l-iterator c.next.new.self c.in-Some.l c.in-Some.ensures.steps c.loop-l.invariant.rises in
+    let read : ℕ → ℕ = λ n. get_or c.args.self.now.totals.now.overlaps n 0 in
+    let small = c.requires.plane.raised.small.overlaps_small in
+    omega (
+      arith,
+      ap read c.place.ensures,
+      ap read c.place-in-loop-l.ensures,
+      ap read c.place-in-loop-l-2.ensures,
+      small c.args.self.now.i c.args.j (j-low at),
+      small c.args.self.now.i c.in-Some.l low,
+      small c.args.j c.in-Some.l low,
+    )
+
+pub overflow_mul-worth-in-loop-l : goal.overflow_mul-worth-in-loop-l
+overflow_mul-worth-in-loop-l c =
+    let at = (goal.at.overflow_mul-worth-in-loop-l c).After-from-in-loop-l-4 in
+    let low = (goal.at.overflow_mul-worth-in-loop-l c).After-next in
+    omega (arith, overlaps-read at, overlaps-small at (i-low low) (j-low low))
 
 pub overflow_sub-worth : goal.overflow_sub-worth
 overflow_sub-worth c =
-    let at = (goal.at.overflow_sub-worth c).After-of-in-loop-l-2 in
+    let at = (goal.at.overflow_sub-worth c).After-from-in-loop-l-4 in
     let low = (goal.at.overflow_sub-worth c).After-next in
     omega (arith, overlaps-read at, c.requires.plane.raised.enough c.args.self.now.i c.args.j c.in-Some.l (i-low low) (j-low low) (l-low at))
 
 pub overflow_cast-worth : goal.overflow_cast-worth
-overflow_cast-worth c = let small = worth-small (goal.at.overflow_cast-worth c).After-of-in-loop-l-2 in omega (arith, small)
+overflow_cast-worth c = let small = worth-small (goal.at.overflow_cast-worth c).After-from-in-loop-l-4 in omega (arith, small)
 
 pub overflow_add-worth-in-loop-l-4 : goal.overflow_add-worth-in-loop-l-4
-overflow_add-worth-in-loop-l-4 c = let small = worth-small (goal.at.overflow_add-worth-in-loop-l-4 c).After-of-in-loop-l-2 in omega (arith, small)
+overflow_add-worth-in-loop-l-4 c = let small = worth-small (goal.at.overflow_add-worth-in-loop-l-4 c).After-from-in-loop-l-4 in omega (arith, small)
 
 pub set-requires-clause-candidate : goal.set-requires-clause-candidate
 set-requires-clause-candidate c = first-low c.loop-l.l-iterator c.next.new.self c.in-Some.l c.in-Some.ensures.steps c.loop-l.invariant.rises
 
 pub set-requires-clause-small : goal.set-requires-clause-small
-set-requires-clause-small c = omega (arith, worth-small (goal.at.set-requires-clause-small c).After-of-in-loop-l-2)
+set-requires-clause-small c = omega (arith, worth-small (goal.at.set-requires-clause-small c).After-from-in-loop-l-4)
 
 pub loop-l-preserved : goal.loop-l-preserved
 loop-l-preserved c =
-    let at = (goal.at.loop-l-preserved c).After-of-in-loop-l-2 in
+    let at = (goal.at.loop-l-preserved c).After-from-in-loop-l-4 in
     let self = c.args.self.now in
     let rest = c.loop-l.l-iterator in
     let first = c.in-Some.l in
     let inv = c.loop-l.invariant in
     let free = without_member (without_member self.node.now.free self.i) c.args.j in
-    let v : ℕ = c.of.result + c.of-in-loop-l.result + c.of-in-loop-l-2.result + 3 * c.from-others.result * c.from.result * c.from-triple.result + self.raise
-    - c.from-others.result * (c.from-in-loop-l.result + c.from-in-loop-l-2.result + c.from-in-loop-l-3.result) in
+    let v : ℕ = c.of.result + c.of-in-loop-l.result + c.of-in-loop-l-2.result + c.from-in-loop-l.result * c.from-in-loop-l-2.result + self.raise
+    - c.from-in-loop-l-3.result * c.from-in-loop-l-4.result in
     let is : v ≡ three_at self.totals.now (λ n. overlap_at self.triples.now) self.node.now.left self.raise self.i c.args.j first =
     omega (arith, c.of.ensures.value, c.of-in-loop-l.ensures.value, c.of-in-loop-l-2.ensures.value, triple-read at, overlaps-read at) in
     let up : three_at self.totals.now (λ n. overlap_at self.triples.now) self.node.now.left self.raise self.i c.args.j first ≤ roughly * (v / roughly + 1) = omega (arith, is) in
