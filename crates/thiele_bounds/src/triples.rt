@@ -5,7 +5,7 @@
 //! (`laws::triples`). Row sums, one level deeper than those of `pairs`, bound this in turn by a sum over the members
 //! (`laws::triple_sums`). With many voters the bound is far lower than that of `pairs`, whose quadratic functions lose
 //! more for each voter. It takes much longer.
-ghost use Rattle.std.specs.Prelude.{◌≡◌, ℕ, ◌+◌, ◌-◌, ◌*◌, ◌^◌, ◌<◌, ◌≤◌, true, List, length, min, slice_index, if◌then◌else◌};
+ghost use Rattle.std.specs.Prelude.{◌≡◌, ℕ, ◌+◌, ◌-◌, ◌*◌, ◌/◌, ◌^◌, ◌<◌, ◌≤◌, true, List, length, min, slice_index, if◌then◌else◌};
 ghost use Rattle.ballot_base.specs.CandSet.{has_member, without_member};
 ghost use Rattle.ballot_base.specs.Ballots.{IsElection, hits, voter_count};
 ghost use Rattle.ballot_base.specs.Limits.{most_candidates, worth_limit};
@@ -14,14 +14,14 @@ ghost use Rattle.row_multipliers.specs.Completions.{IsNode};
 ghost use Rattle.thiele_bounds.specs.Triples.{all_triples, sum_of_two, threshold_sum};
 ghost use Rattle.thiele_bounds.specs.Steps.Paired.{AreNothing, AreSmallSums, most_sum, overlap_at};
 ghost use Rattle.thiele_bounds.specs.Steps.Cubics.{IsSmallCubic, bend_at, contact, fall_at, highest, increment_at, lack, overlap_of, row_triple, touch_of, triple_at, worth_at};
-ghost use Rattle.thiele_bounds.specs.Steps.Threes.{AreCubics, AreRaised, AreThree, AreTriples, IsPlane, IsSumOfOne, plane_three, three_at};
+ghost use Rattle.thiele_bounds.specs.Steps.Threes.{AreBends, AreCubics, AreRaised, AreThree, AreTriples, IsPlane, IsSumOfOne, plane_three, three_at};
 ghost use Rattle.thiele_bounds.specs.Steps.Totals.{AreSmall, NarrowsUnder};
 ghost use Rattle.thiele_bounds.specs.Steps.Units.{most_overlap};
 
 use crate::majorant::{HitSums, Majorant};
 use crate::pairs::{TABLE_PLACES, Table, Totals, add_pairs, place};
 use crate::rough::Rough;
-use ballot_base::{CandSet, PLACES, Profile, Worths};
+use ballot_base::{CandSet, MOST_CANDIDATES, PLACES, Profile, Worths};
 use row_multipliers::Node;
 use std::alloc::Allocator;
 
@@ -98,15 +98,20 @@ impl<A: Allocator + Copy> TripleSearch<'_, A> {
     /// For each free candidate, the row sum of the row sums of the pairs with it.
     fn sums(&self, node: &Node, totals: &Totals, raise: u128) -> Worths
         requires is_node { IsNode self.now.profile.now.m node.now.set node.now.free }
+        requires some { 1 ≤ length node.now.free }
         requires raised { AreRaised totals.now node.now.left raise }
         ensures { (i : ℕ) → has_member node.now.free i ≡ true → IsSumOfOne (three_at totals.now
             (all_triples (row_triple self.now.given.now.sums node.now.set node.now.free node.now.left)
             self.now.profile.now.rows) node.now.left raise) node.now.free node.now.left i (slice_index result i) }
     {
+        let bends = Bends {
+            touches: touches_at(node),
+            triples: triples_of(&self.given.sums),
+        };
         let mut sums = Worths::none();
         for i in node.free.members() {
             let mut triples = [0; TABLE_PLACES];
-            self.add_triples(&mut triples, node, i);
+            self.add_triples(&mut triples, node, i, &bends);
             let plane = Plane {
                 node,
                 totals,
@@ -120,34 +125,43 @@ impl<A: Allocator + Copy> TripleSearch<'_, A> {
     }
 
     /// Adds up the triples of all voters who approve the candidate `i`, for each pair of the other free candidates.
-    fn add_triples(&self, triples: &mut Table, node: &Node, i: u8)
+    fn add_triples(&self, triples: &mut Table, node: &Node, i: u8, bends: &Bends)
         requires is_node { IsNode self.now.profile.now.m node.now.set node.now.free }
+        requires bends { AreBends self.now.given.now.sums node.now bends.now }
         requires some { 1 ≤ length node.now.free }
         requires nothing { (j l : ℕ) → overlap_at triples.old j l ≡ 0 }
         ensures { AreTriples self.now.given.now.sums self.now.profile.now.rows node.now i triples.new }
     {
         let others = node.free.without(i);
         for (ballot, voters) in self.profile.ballots() {
-            let triple = self.triple_with(node, ballot, i);
-            add_some_pairs(triples, ballot.common(others), voters * triple);
+            if ballot.has(i) {
+                let triple = self.triple_with(node, ballot, bends);
+                add_some_pairs(triples, ballot.common(others), voters * triple);
+            }
         }
     }
 
-    /// The triple of the cubic of a ballot, or 0 if the ballot does not approve the candidate `i`.
-    fn triple_with(&self, node: &Node, ballot: CandSet, i: u8) -> u64
-        requires { 1 ≤ length node.now.free }
-        ensures value { result ≡ (if has_member ballot i then triple_at self.now.given.now.sums
-            (hits ballot node.now.set) (touch_of node.now.left (length node.now.free) (hits ballot node.now.free))
-            else 0) }
+    /// The triple of the cubic of a ballot.
+    fn triple_with(&self, node: &Node, ballot: CandSet, bends: &Bends) -> u64
+        requires { AreBends self.now.given.now.sums node.now bends.now }
+        ensures value { result ≡ triple_at self.now.given.now.sums (hits ballot node.now.set)
+            (touch_of node.now.left (length node.now.free) (hits ballot node.now.free)) }
         ensures small { result ≤ most_sum self.now.given.now.sums }
     {
-        if !ballot.has(i) {
-            return 0;
-        }
         let before = ballot.common(node.set).len();
         let approved = ballot.common(node.free).len();
-        triple_of(&self.given.sums, before, touch_at(node, approved))
+        let touch = bends.touches[usize::from(approved)];
+        bends.triples[contact_at(before, touch)]
     }
+}
+
+/// What is needed for the triples of all ballots at a node, so that it is not computed again for each.
+#[derive(Drop)]
+struct Bends {
+    // By the number of free candidates that a ballot approves, where its cubic is exact first.
+    touches: [u8; PLACES],
+    // By the number of hits at which a cubic is exact first, its triple.
+    triples: [u64; PLACES],
 }
 
 /// The triples that a candidate `i` belongs to.
@@ -295,13 +309,27 @@ impl Cubic {
     }
 }
 
-/// The triple of a cubic.
-fn triple_of(sums: &[u64; PLACES], before: u8, touch: u8) -> u64
-    requires { AreSmallSums sums.now }
-    ensures value { result ≡ triple_at sums.now before touch }
-    ensures small { result ≤ most_sum sums.now }
+/// The triple of a cubic, by the number of hits at which it is exact first.
+fn triples_of(sums: &[u64; PLACES]) -> [u64; PLACES]
+    ensures { (n : ℕ) → n ≤ 61 → slice_index result n ≡ bend_at sums.now n / 6 }
 {
-    bend_of(sums, contact_at(before, touch)) / 6
+    let mut triples = [0; PLACES];
+    for n in 0..PLACES - 3 {
+        triples[n] = bend_of(sums, n) / 6;
+    }
+    triples
+}
+
+/// `touch_at`, by the number of free candidates that a ballot approves.
+fn touches_at(node: &Node) -> [u8; PLACES]
+    requires { 1 ≤ length node.now.free }
+    ensures { (n : ℕ) → n ≤ most_candidates → slice_index result n ≡ touch_of node.now.left (length node.now.free) n }
+{
+    let mut touches = [0; PLACES];
+    for approved in 0..MOST_CANDIDATES + 1 {
+        touches[usize::from(approved)] = touch_at(node, approved);
+    }
+    touches
 }
 
 /// The number of further hits at which the cubic of a ballot with `approved` free candidates is exact first: somewhat

@@ -1,8 +1,9 @@
 -- The cubics of rows, and what they add up to.
-use Rattle.std.proofs.Common.{◌≡◌, ℕ, zero, suc, ◌+◌, ◌-◌, ◌*◌, ◌<◌, ◌≤◌, ◌∙◌, Bool, true, false, cond, List, [], ◌∷◌, Some, refl, ap, arith, inl, inr, filter, length, max, min, sum, sum_by, take, get_or, slice_get}
+use Rattle.std.proofs.Common.{◌≡◌, ℕ, zero, suc, ◌+◌, ◌-◌, ◌*◌, ◌<◌, ◌≤◌, ◌∙◌, Bool, true, false, cond, List, [], ◌∷◌, Some, refl, sym, ap, subst, arith, inl, inr, filter, length, max, min, set, sum, sum_by, take, get_or, slice_get}
 use Rattle.std.specs.List.{AllByRecursion}
 use Rattle.std.proofs.Math.Nat.{mul-le-mul_left}
 use Rattle.std.proofs.lemmas.Bool.{cases_lt}
+use Rattle.std.proofs.lemmas.List.{get_or-set_other, get_or-set_same}
 use Rattle.std.proofs.lemmas.List.Sums.{sum_by-cons, sum_by_more}
 use Rattle.std.proofs.lemmas.Option.{get_or_from_slice_get, slice_get_within}
 use Rattle.ballot_base.specs.Ballots.{Row, hits}
@@ -126,6 +127,17 @@ module _ (rows : List Row) (i : ℕ) (row : Row) (found : slice_get rows i ≡ S
         triple-sum triple (take i rows) a b c,
         row-more (λ (r : Row). part (has_member r.0 a) (has_member r.0 b) (has_member r.0 c) (r.1 * triple r)),
       )
+
+-- ---- tables
+
+-- one more is made
+pub set-made : (P : ℕ → ℕ → Type 0) (xs : List ℕ) (n v : ℕ) → n < length xs → ((x : ℕ) → x < n → P x (get_or xs x 0)) → P n v → (x : ℕ) → x < n + 1 → P x (get_or (set xs n v) x 0)
+set-made P xs n v within made here x low = elim (cases_lt x n) [
+  | inl less ↦ subst (P x) (sym (get_or-set_other xs n x v 0 (λ same. absurd (omega (arith, less, same))))) (made x less)
+  | inr high ↦
+      let same : n ≡ x = omega (arith, low, high) in
+      subst (λ y. P y (get_or (set xs n v) y 0)) same (subst (P n) (sym (get_or-set_same xs n v 0 within)) here)
+]
 
 -- ---- row sums
 

@@ -1,5 +1,5 @@
 -- What is kept for triples of members, and their row sums.
-use Rattle.std.specs.Prelude.{ℕ, ◌≡◌, ◌+◌, ◌-◌, ◌*◌, ◌^◌, ◌<◌, ◌≤◌, true, List, slice_index}
+use Rattle.std.specs.Prelude.{ℕ, ◌≡◌, ◌+◌, ◌-◌, ◌*◌, ◌/◌, ◌^◌, ◌<◌, ◌≤◌, true, List, length, slice_index}
 use Rattle.ballot_base.specs.Ballots.{Row}
 use Rattle.ballot_base.specs.CandSet.{has_member, without_member}
 use Rattle.ballot_base.specs.Limits.{most_candidates}
@@ -7,10 +7,11 @@ use Rattle.ballot_base.specs.Lists.{IsIncreasing}
 use Rattle.row_multipliers.specs.declared.node.Node.{Node}
 use Rattle.thiele_bounds.specs.Pairs.{all_constants, all_overlap, all_worth}
 use Rattle.thiele_bounds.specs.Triples.{all_triples, sum_of_one, sum_of_two, threshold_sum, worth_of_three}
-use Rattle.thiele_bounds.specs.Steps.Cubics.{row_constant, row_overlap, row_triple, row_worth}
+use Rattle.thiele_bounds.specs.Steps.Cubics.{bend_at, row_constant, row_overlap, row_triple, row_worth, touch_of}
 use Rattle.thiele_bounds.specs.Steps.Paired.{overlap_at}
 use Rattle.thiele_bounds.specs.Steps.Totals.{AreSmall}
 use Rattle.thiele_bounds.specs.declared.pairs.Totals.{Totals}
+use Rattle.thiele_bounds.specs.declared.triples.Bends.{Bends}
 use Rattle.thiele_bounds.specs.declared.triples.Plane.{Plane}
 
 -- the totals are those of the rows' cubics
@@ -27,6 +28,12 @@ abbrev pub AreTriples : List ℕ → List Row → Node → ℕ → List ℕ → 
 AreTriples sums rows node i table = (j l : ℕ) → has_member (without_member node.free i) j ≡ true
     → has_member (without_member node.free i) l ≡ true
     → overlap_at table j l ≡ all_triples (row_triple sums node.set node.free node.left) rows i j l
+
+-- where cubics at a node are exact first, and their triples
+pub record AreBends (sums : List ℕ) (node : Node) (bends : Bends) : Type 0 where
+  pub touches_are : (n : ℕ) → n ≤ most_candidates
+      → slice_index bends.touches n ≡ touch_of node.left (length node.free) n
+  pub triples_are : (n : ℕ) → n ≤ 61 → slice_index bends.triples n ≡ bend_at sums n / 6
 
 -- the worth of three, by totals
 abbrev pub three_at : Totals → (ℕ → ℕ → ℕ → ℕ) → ℕ → ℕ → ℕ → ℕ → ℕ → ℕ

@@ -15,7 +15,7 @@ use Rattle.thiele_bounds.proofs.PairBounds.OverlapLemmas.{portion}
 use Rattle.thiele_bounds.proofs.PairBounds.PairTotals.{cells-same, portion-most, voters-more}
 use Rattle.thiele_bounds.proofs.PairBounds.TripleLemmas.{part}
 use Rattle.thiele_bounds.proofs.triples.TripleSearch.add_triples.Goals as goal
-use Rattle.thiele_bounds.proofs.triples.TripleSearch.add_triples.Goals.{After-triple_with-triple}
+use Rattle.thiele_bounds.proofs.triples.TripleSearch.add_triples.Goals.{After-common}
 
 pub loop-ballot-init : goal.loop-ballot-init
 loop-ballot-init g c = record {
@@ -23,15 +23,8 @@ loop-ballot-init g c = record {
   small = λ a b low. omega (arith, c.requires.nothing a b);
 }
 
--- the triples of a row more
-part-of : (p q r : Bool) (v t : ℕ) → portion q r (v * cond p t 0) ≡ part p q r (v * t)
-part-of true q r v t = refl
-part-of false true true v t = omega arith
-part-of false true false v t = refl
-part-of false false r v t = refl
-
 -- what the voters of the next row add
-fits : (g : _) (c : After-triple_with-triple g)
+fits : (g : _) (c : After-common g)
     → (voter_count (take (length c.loop-ballot.yielded) c.args.self.now.profile.now.rows) + c.in-Some.voters) * most_sum c.args.self.now.given.now.sums ≤ 2 ^ 58
 fits g c =
     let e = c.args.self.now.profile.now in
@@ -43,24 +36,24 @@ fits g c =
     mul-le-mul_right (most_sum c.args.self.now.given.now.sums) (omega (arith, few, voters-more e c.ballots-ballot-items.ensures.valid i row at)) in
     omega (arith, all, c.args.self.now.fits)
 
-amount-small : (g : _) (c : After-triple_with-triple g) → c.in-Some.voters * c.triple_with-triple.result ≤ c.in-Some.voters * most_sum c.args.self.now.given.now.sums
+amount-small : (g : _) (c : After-common g) → c.in-Some.voters * c.triple_with-triple.result ≤ c.in-Some.voters * most_sum c.args.self.now.given.now.sums
 amount-small g c = mul-le-mul_left c.in-Some.voters c.triple_with-triple.ensures.small
 
 pub overflow_mul-voters : goal.overflow_mul-voters
 overflow_mul-voters g c =
-    let at = (goal.at.overflow_mul-voters g c).After-triple_with-triple in
+    let at = (goal.at.overflow_mul-voters g c).After-common in
     omega (arith, fits g at, amount-small g at)
 
 pub add_some_pairs-requires : goal.add_some_pairs-requires
 add_some_pairs-requires g c =
-    let at = (goal.at.add_some_pairs-requires g c).After-triple_with-triple in
+    let at = (goal.at.add_some_pairs-requires g c).After-common in
     record {
       fits = λ a b low. omega (arith, fits g at, amount-small g at, c.loop-ballot.invariant.small a b low);
     }
 
-pub loop-ballot-preserved : goal.loop-ballot-preserved
-loop-ballot-preserved g c =
-    let at_ = (goal.at.loop-ballot-preserved g c).After-triple_with-triple in
+pub loop-ballot-preserved-then-has : goal.loop-ballot-preserved-then-has
+loop-ballot-preserved-then-has g c =
+    let at_ = (goal.at.loop-ballot-preserved-then-has g c).After-common in
     let given = c.args.self.now.given.now in
     let e = c.args.self.now.profile.now in
     let node = c.args.node.now in
@@ -77,13 +70,14 @@ loop-ballot-preserved g c =
     let amount = c.in-Some.voters * c.triple_with-triple.result in
     let one : ℕ = row_triple given.sums set free node.left row in
     let are : open_ ≡ common_members row.0 others = c.common.ensures ∙ ap (common_members row.0) c.without-others.ensures in
+    let has : true ≡ has_member row.0 c.args.i = sym c.if-has.true ∙ c.has.ensures in
     let more : AreTriples given.sums (take (i + 1) e.rows) node c.args.i c.add_some_pairs.new.table =
     λ j l here there.
     let low : l ≤ most_candidates = omega (arith, member-high 1 e.m free l c.requires.is_node.free_within (without-is free c.args.i l there), valid.most) in
     c.add_some_pairs.ensures j l low
     ∙ ap (λ x. overlap_at c.loop-ballot.triples j l + x) (cells-same row.0 others open_ j l amount are here there)
     ∙ ap (λ x. overlap_at c.loop-ballot.triples j l + portion (has_member row.0 j) (has_member row.0 l) (row.1 * x)) c.triple_with-triple.ensures.value
-    ∙ ap (λ x. overlap_at c.loop-ballot.triples j l + x) (part-of (has_member row.0 c.args.i) (has_member row.0 j) (has_member row.0 l) row.1 one)
+    ∙ ap (λ x. overlap_at c.loop-ballot.triples j l + part x (has_member row.0 j) (has_member row.0 l) (row.1 * one)) has
     ∙ ap (λ x. x + part (has_member row.0 c.args.i) (has_member row.0 j) (has_member row.0 l) (row.1 * one)) (inv.triples j l here there)
     ∙ sym (triple-more e.rows i row at (row_triple given.sums set free node.left) c.args.i j l) in
     record {
@@ -97,6 +91,34 @@ loop-ballot-preserved g c =
             c.add_some_pairs.ensures a b low,
             portion-most (has_member open_ a) (has_member open_ b) amount,
           ));
+    }
+
+-- who does not approve the candidate has no triple with it
+pub loop-ballot-preserved : goal.loop-ballot-preserved
+loop-ballot-preserved g c =
+    let given = c.args.self.now.given.now in
+    let e = c.args.self.now.profile.now in
+    let node = c.args.node.now in
+    let row : Row = (c.in-Some.ballot, c.in-Some.voters) in
+    let at = row_of_turn e.rows (c.into_iter-ballot-iterator.ensures.into_iter_gives ∙ c.ballots-ballot-items.ensures.rows) c.loop-ballot.yielded c.loop-ballot.yielded_by row c.in-Some.ensures.steps in
+    let i = length c.loop-ballot.yielded in
+    let next = sym (length_push c.loop-ballot.yielded row) in
+    let inv = c.loop-ballot.invariant in
+    let valid = c.ballots-ballot-items.ensures.valid in
+    let one : ℕ = row_triple given.sums node.set node.free node.left row in
+    let has : has_member row.0 c.args.i ≡ false = sym c.has.ensures ∙ c.if-has.false in
+    let more : AreTriples given.sums (take (i + 1) e.rows) node c.args.i c.loop-ballot.triples =
+    λ j l here there.
+    omega (
+      arith,
+      inv.triples j l here there,
+      ap (λ x. part x (has_member row.0 j) (has_member row.0 l) (row.1 * one)) has,
+      triple-more e.rows i row at (row_triple given.sums node.set node.free node.left) c.args.i j l,
+    ) in
+    record {
+      triples = subst (λ n. AreTriples given.sums (take n e.rows) node c.args.i c.loop-ballot.triples) next more;
+      small = λ a b low. subst (λ x. overlap_at c.loop-ballot.triples a b ≤ voter_count (take x e.rows) * most_sum given.sums) next
+          (omega (arith, ap (λ n. n * most_sum given.sums) (voters-more e valid i row at), inv.small a b low));
     }
 
 pub returns : goal.returns

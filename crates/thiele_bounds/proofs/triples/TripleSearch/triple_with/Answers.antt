@@ -1,12 +1,15 @@
-use Rattle.std.proofs.Common.{◌≡◌, ◌∙◌, ap, cond, length}
+use Rattle.std.proofs.Common.{◌≡◌, ℕ, ◌+◌, ◌/◌, ◌≤◌, ◌∙◌, ap, arith, length, min, get_or}
 use Rattle.ballot_base.specs.Ballots.{hits}
 use Rattle.tie_walk.proofs.RowSums.{length-common}
-use Rattle.thiele_bounds.specs.Steps.Cubics.{touch_of, triple_at}
+use Rattle.thiele_bounds.specs.Steps.Cubics.{bend_at, contact, touch_of}
+use Rattle.thiele_bounds.proofs.PairBounds.CubicLemmas.{bend-small}
 use Rattle.thiele_bounds.proofs.PairBounds.MajorantLemmas.{small-sums}
 use Rattle.thiele_bounds.proofs.triples.TripleSearch.triple_with.Goals as goal
+use Rattle.thiele_bounds.proofs.triples.TripleSearch.triple_with.Goals.{After-contact_at}
 
-pub triple_of-requires : goal.triple_of-requires
-triple_of-requires g c = small-sums c.args.self.now.given.now
+-- what is read
+read : (g : _) (c : After-contact_at g) → get_or c.args.bends.now.triples c.contact_at.result 0 ≡ bend_at c.args.self.now.given.now.sums c.contact_at.result / 6
+read g c = let low : c.contact_at.result ≤ 61 = omega (arith, c.contact_at.ensures) in c.requires.triples_are c.contact_at.result low
 
 pub returns-clause-value : goal.returns-clause-value
 returns-clause-value g c =
@@ -15,8 +18,13 @@ returns-clause-value g c =
     let ballot = c.args.ballot in
     let before : c.len-before.result ≡ hits ballot node.set = c.len-before.ensures.count ∙ ap length c.common.ensures ∙ length-common ballot node.set in
     let approved : c.len-approved.result ≡ hits ballot node.free = c.len-approved.ensures.count ∙ ap length c.common-2.ensures ∙ length-common ballot node.free in
-    let touch : c.touch_at.result ≡ touch_of node.left (length node.free) (hits ballot node.free) = c.touch_at.ensures.value ∙ ap (touch_of node.left (length node.free)) approved in
-    c.triple_of.ensures.value
-    ∙ ap (λ n. triple_at sums n c.touch_at.result) before
-    ∙ ap (triple_at sums (hits ballot node.set)) touch
-    ∙ ap (λ b. cond b (triple_at sums (hits ballot node.set) (touch_of node.left (length node.free) (hits ballot node.free))) 0) c.if-not-has.ensures
+    let touch : get_or c.args.bends.now.touches c.from.result 0 ≡ touch_of node.left (length node.free) (hits ballot node.free) =
+    ap (λ n. get_or c.args.bends.now.touches n 0) c.from.ensures ∙ c.requires.touches_are c.len-approved.result c.len-approved.ensures.most ∙ ap (touch_of node.left (length node.free)) approved in
+    let at : c.contact_at.result ≡ contact (hits ballot node.set) (touch_of node.left (length node.free) (hits ballot node.free)) =
+    c.contact_at.ensures ∙ ap (λ n. contact n (get_or c.args.bends.now.touches c.from.result 0)) before ∙ ap (contact (hits ballot node.set)) touch in
+    read g (goal.at.returns-clause-value g c).After-contact_at ∙ ap (λ n. bend_at sums n / 6) at
+
+pub returns-clause-small : goal.returns-clause-small
+returns-clause-small g c =
+    let low : c.contact_at.result ≤ 61 = omega (arith, c.contact_at.ensures) in
+    omega (arith, read g (goal.at.returns-clause-small g c).After-contact_at, bend-small c.args.self.now.given.now.sums (small-sums c.args.self.now.given.now) c.contact_at.result low)
