@@ -17,8 +17,11 @@ use std::cell::Cell;
 /// With fewer seats left there are no triples.
 pub(crate) const FEWEST_SEATS: u8 = 3;
 
-/// The work before triples are first counted, in visits to a set. Shorter searches end sooner without.
-const BEGINNING: u64 = 100_000;
+/// The work before triples are first counted, in such counts. Shorter searches end sooner without.
+const BEGINNING: u64 = 16;
+
+/// Triples are counted again each time that so many of a node's candidates were tried.
+const TURN: u32 = 3;
 
 /// The work of counting pairs at a node, with 500 as with 5,000 different ballots.
 pub(crate) const PAIRS_WORK: u64 = 20;
@@ -90,15 +93,34 @@ impl Payoff {
     /// Whether to count triples at the node that was entered last.
     pub(crate) fn is_due(&self, node: &Node) -> bool {
         let done = self.done.get();
-        let has_begun = done >= BEGINNING && self.lost.get() <= done / LOST_SHARE;
+        let cost = self.work_at(node);
+        let has_begun = done / BEGINNING >= cost && self.lost.get() <= done / LOST_SHARE;
         // Further down, their tables would take too much stack.
         if !has_begun || node.left < FEWEST_SEATS || node.set.len() > MOST_CHOSEN {
             return false;
         }
-        match self.levels.get(usize::from(node.left)) {
-            Some(level) => level.get().saves(self.work_at(node)),
-            None => false,
+        let Some(level) = self.levels.get(usize::from(node.left)) else {
+            return false;
+        };
+        level.get().saves(self.work_below(node.left), cost)
+    }
+
+    /// Whether it is a turn to count triples again at a node with `left` seats left, as candidates have left it.
+    pub(crate) fn is_turn(&self, left: u8) -> bool {
+        let Some(level) = self.levels.get(usize::from(left)) else {
+            return false;
+        };
+        level.update(Level::passed);
+        level.get().passed % TURN == 0
+    }
+
+    /// The work below a node with `left` seats left, as far as it is known: at least that with fewer seats left.
+    fn work_below(&self, left: u8) -> u64 {
+        let mut most = 0;
+        for level in self.levels.iter().take(usize::from(left) + 1) {
+            most = level.get().known().max(most);
         }
+        most
     }
 
     /// Notes the answer of triples at the node that was entered last, and returns it.
@@ -124,7 +146,7 @@ impl Payoff {
     fn work_at(&self, node: &Node) -> u64 {
         let free = u64::from(node.free.len());
         let rows = self.rows.min(MOST_ROWS);
-        free * (16 * rows + 700 * free) / (3500 + rows)
+        free * (16 * rows + 175 * free) / (2200 + 5 * rows)
     }
 }
 
@@ -132,6 +154,8 @@ impl Payoff {
 #[derive(Clone, Copy)]
 struct Level {
     nodes: u32,
+    // The candidates of the present node that were tried.
+    passed: u32,
     // What triples achieved, in parts.
     success: Mean,
     // The work below a node where triples are not counted.
@@ -143,10 +167,27 @@ struct Level {
 impl Level {
     const NONE: Level = Level {
         nodes: 0,
+        passed: 0,
         success: HOPED,
         below: Mean::NONE,
         open: None,
     };
+
+    /// The work below a node, or 0 if too few are known.
+    fn known(self) -> u64 {
+        if self.below.count < FEWEST_KNOWN {
+            return 0;
+        }
+        self.below.value
+    }
+
+    /// Passes on to another candidate of the node.
+    fn passed(self) -> Level {
+        Level {
+            passed: self.passed.wrapping_add(1),
+            ..self
+        }
+    }
 
     /// Ends the count of the work below a node.
     fn closed(self, done: u64) -> Level {
@@ -165,6 +206,7 @@ impl Level {
     fn entered(self, done: u64) -> Level {
         Level {
             nodes: self.nodes.wrapping_add(1),
+            passed: 0,
             open: Some(done),
             ..self
         }
@@ -172,11 +214,11 @@ impl Level {
 
     /// Whether triples that cost this much are taken to save three times as much. Below the first nodes there is far
     /// more work than below others, so that triples seem to pay.
-    fn saves(&self, cost: u64) -> bool {
-        if self.below.count < FEWEST_KNOWN || self.nodes % LEFT_ALONE == 0 {
+    fn saves(&self, below: u64, cost: u64) -> bool {
+        if self.nodes % LEFT_ALONE == 0 {
             return false;
         }
-        let saved = self.success.value.saturating_mul(self.below.value) / PARTS;
+        let saved = self.success.value.saturating_mul(below) / PARTS;
         saved / 3 >= cost
     }
 

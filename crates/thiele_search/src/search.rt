@@ -199,6 +199,18 @@ impl<'a, A: Allocator + Copy> ThieleSearch<'a, A> {
         self.triple_narrowed(&Node { free, ..*node }, least)
     }
 
+    /// Like `eligible`, but where candidates have left a node after its entry.
+    fn eligible_again(&self, node: &Node, least: u128) -> Option<CandSet>
+        requires is_node { IsNode self.now.election.m node.now.set node.now.free }
+        ensures { Narrows (tally_value self.now) self.now.election.m node.now least result }
+    {
+        let free = self.eligible(node, least, AGAIN)?;
+        if !self.triples.is_turn(node.left) {
+            return Some(free);
+        }
+        self.triple_narrowed(&Node { free, ..*node }, least)
+    }
+
     /// Like `eligible`, but by triples, if they are worth counting.
     fn triple_narrowed(&self, node: &Node, least: u128) -> Option<CandSet>
         requires is_node { IsNode self.now.election.m node.now.set node.now.free }
@@ -334,7 +346,7 @@ impl<'a, A: Allocator + Copy> Narrowing for ThieleSearch<'a, A> {
         // Gains are known here, so what they rule out is left out before anything else is counted. In the other order,
         // parties with noise took up to twice as long under `pav`.
         let free = self.promising(&plan.worths, node, least)?;
-        self.eligible(&Node { free, ..*node }, least, AGAIN)
+        self.eligible_again(&Node { free, ..*node }, least)
     }
 
     fn child(&self, plan: &Plan, node: &Node, next: u8) -> Node {
