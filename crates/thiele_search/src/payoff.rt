@@ -18,7 +18,7 @@ use std::cell::Cell;
 pub(crate) const FEWEST_SEATS: u8 = 3;
 
 /// The work before triples are first counted, in such counts. Shorter searches end sooner without.
-const BEGINNING: u64 = 16;
+const BEGINNING: u64 = 32;
 
 /// Triples are counted again each time that so many of a node's candidates were tried.
 const TURN: u32 = 3;
@@ -141,12 +141,11 @@ impl Payoff {
     }
 
     /// The work of counting triples at a node: a pass over the ballots for each free candidate, and a bound for each
-    /// pair of them. A visit takes longer with many ballots too, but not in proportion. Taken to be in proportion, 40
-    /// random candidates and 5,000 voters took twice as long under `pav`.
+    /// pair of them, with each of the others. A visit takes longer with many ballots too.
     fn work_at(&self, node: &Node) -> u64 {
         let free = u64::from(node.free.len());
         let rows = self.rows.min(MOST_ROWS);
-        free * (16 * rows + 175 * free) / (2200 + 5 * rows)
+        free * (5 * rows + 4 * free * free) / (120 + 2 * rows)
     }
 }
 
