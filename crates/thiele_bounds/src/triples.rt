@@ -25,8 +25,7 @@ use ballot_base::{CandSet, MOST_CANDIDATES, PLACES, Profile, Worths};
 use row_multipliers::Node;
 use std::alloc::Allocator;
 
-/// The number of units of worths of three in a unit of the rounded ones. So these fit into words, and take a fifth of
-/// the time.
+/// The number of units of worths of three in a unit of the rounded ones. So these fit into words.
 const ROUGHLY: u128 = 1 << 30;
 
 /// What a search looks for by triples: the ballots, what hits give, and the value that a committee has to reach.

@@ -1,4 +1,4 @@
-use Rattle.std.proofs.Common.{◌≡◌, ℕ, ◌+◌, ◌<◌, ◌∙◌, ap, arith, length, set, get_or, subst, sym}
+use Rattle.std.proofs.Common.{◌≡◌, ◌∙◌, arith, length}
 use Rattle.std.proofs.lemmas.List.{length-set}
 use Rattle.thiele_bounds.specs.Steps.Cubics.{touch_of}
 use Rattle.thiele_bounds.proofs.PairBounds.CubicLemmas.{set-made}

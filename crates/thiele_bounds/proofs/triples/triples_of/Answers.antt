@@ -1,4 +1,4 @@
-use Rattle.std.proofs.Common.{◌≡◌, ℕ, ◌/◌, ◌<◌, ◌∙◌, ap, arith}
+use Rattle.std.proofs.Common.{◌≡◌, ◌/◌, ◌∙◌, ap, arith}
 use Rattle.std.proofs.lemmas.List.{length-set}
 use Rattle.thiele_bounds.specs.Steps.Cubics.{bend_at}
 use Rattle.thiele_bounds.proofs.PairBounds.CubicLemmas.{set-made}

@@ -1,4 +1,3 @@
-use Rattle.std.proofs.Common.{ℕ}
 use Rattle.thiele_bounds.specs.Steps.Threes.{IsBound}
 use Rattle.thiele_bounds.proofs.rough.Rough.bound.Given as goal
 

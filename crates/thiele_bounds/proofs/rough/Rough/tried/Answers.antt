@@ -1,4 +1,4 @@
-use Rattle.std.proofs.Common.{◌≡◌, ◌*◌, ◌∙◌, ap, arith}
+use Rattle.std.proofs.Common.{◌*◌, ap, arith}
 use Rattle.thiele_bounds.proofs.rough.Rough.tried.Goals as goal
 
 pub returns : goal.returns

@@ -1,4 +1,4 @@
-use Rattle.std.proofs.Common.{◌≡◌, ℕ, ◌+◌, ◌/◌, ◌≤◌, ◌∙◌, ap, arith, length, min, get_or}
+use Rattle.std.proofs.Common.{◌≡◌, ◌/◌, ◌≤◌, ◌∙◌, ap, arith, length, get_or}
 use Rattle.ballot_base.specs.Ballots.{hits}
 use Rattle.tie_walk.proofs.RowSums.{length-common}
 use Rattle.thiele_bounds.specs.Steps.Cubics.{bend_at, contact, touch_of}
