@@ -1,6 +1,6 @@
 -- Voters without a hit, and the branches of a lean search.
 use Rattle.std.proofs.lemmas.Grind.{common_steps}
-use Rattle.std.proofs.Common.{◌≡◌, ℕ, zero, suc, ◌+◌, ◌-◌, ◌*◌, ◌<◌, ◌≤◌, ◌==◌, ◌&&◌, ◌||◌, ◌∙◌, ◌^◌, Bool, true, false, not, cond, min, filter, replicate, List, Option, None, [], ◌∷◌, ◌++◌, refl, sym, ap, arith, inl, inr, length, sum_by, get_or, bit_and, take, slice_get, Some}
+use Rattle.std.proofs.Common.{◌≡◌, ℕ, zero, suc, ◌+◌, ◌-◌, ◌*◌, ◌<◌, ◌≤◌, ◌==◌, ◌&&◌, ◌||◌, ◌∙◌, ◌^◌, Bool, true, false, not, cond, min, filter, replicate, List, Option, [], ◌∷◌, ◌++◌, refl, sym, ap, arith, inl, inr, length, sum_by, get_or, bit_and, take, slice_get, Some}
 use Rattle.std.specs.Prelude.{IsTrue, MatchOption}
 use Rattle.std.specs.Int.{bit_at}
 use Rattle.std.specs.Int.RustNames.{count_ones}
@@ -27,7 +27,7 @@ use Rattle.tie_walk.specs.Sequences.{gain}
 use Rattle.tie_walk.specs.Values.{Thiele, tally_value, thiele_of, thiele_value}
 use Rattle.tie_walk.proofs.Gains.{hits-with}
 use Rattle.tie_walk.proofs.WorthLemmas.{no_total}
-use Rattle.thiele_search.specs.Steps.Columns.{block_voters, total, shared, given, voter_ballot, voters_of, AreColumns, AreRising}
+use Rattle.thiele_search.specs.Steps.Columns.{block_voters, total, given, voter_ballot, voters_of, AreColumns, AreRising}
 use Rattle.thiele_search.specs.Steps.Uncovered.{AreWithout, IsBranch, FallsShort, is_uncovered, joins, newly, table_blocks, uncovered_voters}
 use Rattle.thiele_search.specs.declared.uncovered.Branch.{Branch}
 use Rattle.thiele_search.proofs.ColumnLemmas.{and-fits, gain-given, ones-total, total-same, total-voters, voters-append, voters-rising, voters-sum}

@@ -1,4 +1,4 @@
-use Rattle.std.proofs.Common.{◌-◌, ◌∙◌, ap, min, w64}
+use Rattle.std.proofs.Common.{◌∙◌, ap, min, w64}
 use Rattle.std.specs.Int.{bit_at, bit_not}
 use Rattle.std.proofs.lemmas.Nat.Bits.{bit_at_and, bit_at_not}
 use Rattle.thiele_search.proofs.uncovered.others.Goals as goal

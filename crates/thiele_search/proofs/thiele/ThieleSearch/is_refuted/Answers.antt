@@ -1,5 +1,4 @@
-use Rattle.std.proofs.Common.{◌∙◌, arith}
-use Rattle.thiele_search.proofs.UncoveredLemmas.{refuted-out}
+use Rattle.std.proofs.Common.{◌∙◌}
 use Rattle.thiele_search.proofs.thiele.ThieleSearch.is_refuted.Goals as goal
 
 pub refutes-requires-clause-valid : goal.refutes-requires-clause-valid

@@ -1,7 +1,6 @@
-use Rattle.std.proofs.Common.{◌≡◌, ◌+◌, ◌<◌, ◌≤◌, ◌∙◌, ℕ, None, Some, true, refl, sym, ap, arith, get_or, get_or-set_other, length}
+use Rattle.std.proofs.Common.{◌≡◌, ◌+◌, ◌<◌, ◌∙◌, ℕ, None, Some, true, refl, sym, ap, arith, get_or, get_or-set_other, length}
 use Rattle.ballot_base.specs.CandSet.{has_member, without_member}
 use Rattle.ballot_base.specs.Increments.{increments}
-use Rattle.ballot_base.specs.Limits.{most_members}
 use Rattle.ballot_base.specs.declared.increments.ThieleRule.TheVariants.{Cc}
 use Rattle.ballot_base.proofs.Sums.{length-among}
 use Rattle.row_multipliers.specs.Steps.Narrowed.{IsNarrowed}

@@ -1,4 +1,4 @@
-use Rattle.std.proofs.Common.{◌∙◌, refl, arith}
+use Rattle.std.proofs.Common.{arith}
 use Rattle.row_multipliers.proofs.CompletionLemmas.{member-high, member-low}
 use Rattle.thiele_search.proofs.UncoveredLemmas.{branch-child}
 use Rattle.thiele_search.proofs.uncovered.Uncovered.child.Goals as goal

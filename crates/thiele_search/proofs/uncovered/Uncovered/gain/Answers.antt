@@ -1,4 +1,4 @@
-use Rattle.std.proofs.Common.{◌≡◌, ℕ, ◌+◌, ◌*◌, ◌∙◌, List, [], sym, ap, arith, bit_and, get_or}
+use Rattle.std.proofs.Common.{◌≡◌, ℕ, ◌+◌, ◌*◌, ◌∙◌, [], sym, ap, arith, bit_and, get_or}
 use Rattle.std.specs.Int.RustNames.{count_ones}
 use Rattle.thiele_search.specs.Steps.Columns.{block_voters, total, voter_ballot}
 use Rattle.thiele_search.specs.Steps.Uncovered.{joins, uncovered_voters}

@@ -1,4 +1,4 @@
-use Rattle.std.proofs.Common.{◌≡◌, ℕ, ◌+◌, ◌*◌, ◌≤◌, ◌∙◌, List, ◌∷◌, [], ◌++◌, refl, sym, ap, subst, arith, length, take, replicate, length-append}
+use Rattle.std.proofs.Common.{◌≡◌, ℕ, ◌*◌, ◌≤◌, ◌∙◌, List, ◌∷◌, [], ◌++◌, refl, sym, ap, subst, arith, length, take, replicate, length-append}
 use Rattle.std.specs.Int.{bit_at}
 use Rattle.std.proofs.lemmas.List.{length-replicate, length_push}
 use Rattle.std.proofs.lemmas.Nat.Bits.{bit_at-zero}

@@ -1,4 +1,3 @@
-use Rattle.std.proofs.Common.{arith}
 use Rattle.thiele_search.proofs.UncoveredLemmas.{first-without}
 use Rattle.thiele_search.proofs.uncovered.Uncovered.refutes.Goals as goal
 
