@@ -29,9 +29,9 @@ pub(crate) const PAIRS_WORK: u64 = 20;
 /// The work of a round that moves multipliers.
 pub(crate) const ROUND_WORK: u64 = 16;
 
-/// The share of all work that may be lost on counts that end no node. With a sixteenth, voters round four rankings took
-/// a sixth more instructions under `geom4`.
-const LOST_SHARE: u64 = 64;
+/// The share of all work that may be lost on counts that end no node. With a 64th, 64 random candidates took a sixth
+/// more instructions under `pav`, and noisy parties half as much time again under `geom4`.
+const LOST_SHARE: u64 = 128;
 
 /// The number of nodes, for a number of seats left, whose work below has to be known.
 const FEWEST_KNOWN: u64 = 4;
