@@ -17,10 +17,11 @@ use std::cell::Cell;
 /// With fewer seats left there are no triples.
 pub(crate) const FEWEST_SEATS: u8 = 3;
 
-/// The work before triples are first counted, in such counts. Shorter searches end sooner without.
+/// The work before triples are first counted: that of 32 counts. Shorter searches end sooner without.
 const BEGINNING: u64 = 32;
 
-/// Triples are counted again each time that so many of a node's candidates were tried.
+/// Triples are counted again after each third candidate of a node. Counted only where a node is entered, 5,000 random
+/// voters took twice as long under `pav`.
 const TURN: u32 = 3;
 
 /// The work of counting pairs at a node, with 500 as with 5,000 different ballots.
@@ -105,7 +106,7 @@ impl Payoff {
         level.get().saves(self.work_below(node.left), cost)
     }
 
-    /// Whether it is a turn to count triples again at a node with `left` seats left, as candidates have left it.
+    /// Whether it is time to count triples again at a node with `left` seats left, as candidates have left it.
     pub(crate) fn is_turn(&self, left: u8) -> bool {
         let Some(level) = self.levels.get(usize::from(left)) else {
             return false;
