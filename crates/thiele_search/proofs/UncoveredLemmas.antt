@@ -1,6 +1,6 @@
 -- Voters without a hit, and the branches of a lean search.
 use Rattle.std.proofs.lemmas.Grind.{common_steps}
-use Rattle.std.proofs.Common.{◌≡◌, ℕ, zero, suc, ◌+◌, ◌-◌, ◌*◌, ◌<◌, ◌≤◌, ◌==◌, ◌&&◌, ◌||◌, ◌∙◌, ◌^◌, Bool, true, false, not, cond, min, filter, replicate, List, Option, [], ◌∷◌, ◌++◌, refl, sym, ap, arith, inl, inr, length, sum_by, get_or, bit_and, take, slice_get, Some}
+use Rattle.std.proofs.Common.{◌≡◌, ℕ, zero, suc, ◌+◌, ◌-◌, ◌*◌, ◌<◌, ◌≤◌, ◌==◌, ◌&&◌, ◌||◌, ◌∙◌, ◌^◌, Bool, true, false, not, cond, min, filter, replicate, List, Option, [], ◌∷◌, ◌++◌, refl, sym, ap, arith, inl, inr, length, sum_by, get_or, get_or-set_other, set, bit_and, take, slice_get, Some}
 use Rattle.std.specs.Prelude.{IsTrue, MatchOption}
 use Rattle.std.specs.Int.{bit_at}
 use Rattle.std.specs.Int.RustNames.{count_ones}
@@ -28,7 +28,7 @@ use Rattle.tie_walk.specs.Values.{Thiele, tally_value, thiele_of, thiele_value}
 use Rattle.tie_walk.proofs.Gains.{hits-with}
 use Rattle.tie_walk.proofs.WorthLemmas.{no_total}
 use Rattle.thiele_search.specs.Steps.Columns.{block_voters, total, given, voter_ballot, voters_of, AreColumns, AreRising}
-use Rattle.thiele_search.specs.Steps.Uncovered.{AreWithout, IsBranch, FallsShort, is_uncovered, joins, newly, table_blocks, uncovered_voters}
+use Rattle.thiele_search.specs.Steps.Uncovered.{AreFew, AreWithout, IsBranch, FallsShort, is_uncovered, joins, newly, table_blocks, uncovered_voters}
 use Rattle.thiele_search.specs.declared.uncovered.Branch.{Branch}
 use Rattle.thiele_search.proofs.ColumnLemmas.{and-fits, gain-given, ones-total, total-same, total-voters, voters-append, voters-rising, voters-sum}
 use Rattle.thiele_search.proofs.GainLemmas.{gain-same, gains-narrow}
@@ -229,6 +229,21 @@ module _ (gains : List ℕ) (t : ℕ) (free : List ℕ) (left : ℕ) (chosen : L
 
   pub chosen-spare : (n : ℕ) → has_member chosen n ≡ true → sum_by worth chosen + (t - worth n) ≤ left * t + total (λ n. worth n - t) (most_candidates + 1)
   chosen-spare n is = omega (arith, chosen-excess gains t chosen are.rises, sum-member worth worth t n chosen (λ x in_. omega arith) is, ap (λ n. n * t) are.few)
+
+-- gains that are set stay few
+pub few-zeros : AreFew (replicate 65 0)
+few-zeros n = omega (arith, no_total 65 n)
+
+pub few-set : (gains : List ℕ) (at x : ℕ) → x ≤ table_blocks * block_voters → AreFew gains → AreFew (set gains at x)
+few-set gains at x low few n = elim (cases_eq n at) [
+  | inl same ↦ rw same (set-few gains at x low few)
+  | inr other ↦ omega (arith, get_or-set_other gains at n x 0 other, few n)
+]
+  where
+    set-few : (gains : List ℕ) (at x : ℕ) → x ≤ table_blocks * block_voters → AreFew gains → get_or (set gains at x) at 0 ≤ table_blocks * block_voters
+    set-few [] at x low few = omega arith
+    set-few (y ∷ gains) zero x low few = low
+    set-few (y ∷ gains) (suc at) x low few = set-few gains at x low (λ n. few (suc n))
 
 -- ---- branches
 

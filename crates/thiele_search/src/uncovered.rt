@@ -2,10 +2,10 @@
 //!
 //! No bound ends most nodes with seven seats left, so the work at each of them counts. There only voters without a hit
 //! who approve a free candidate are of use. They are written anew as columns of few words, and one word in each block
-//! tells who of them is still without a hit. So the gains of a set are counted with a few instructions for each
-//! candidate.
+//! has a bit for each of them that is still without a hit. So the gains of a set are counted with a few instructions
+//! for each candidate.
 //!
-//! The search only tells whether it has refuted a node: whether no completion of it reaches a value. If it finds that
+//! The search only reports whether it has refuted a node: whether no completion of it reaches a value. If it finds that
 //! one may, it stops. The order of the candidates and the thresholds only decide how soon it ends.
 ghost use Rattle.std.specs.Prelude.{◌≡◌, ℕ, ◌+◌, ◌-◌, ◌*◌, ◌^◌, ◌<◌, ◌≤◌, List, true, false, filter, length, min, nat_le, slice_index, MatchOption, ⊤};
 ghost use Rattle.std.specs.Int.{bit_at};
@@ -19,7 +19,7 @@ ghost use Rattle.row_multipliers.specs.Completions.{IsNode, IsOutOfReach};
 ghost use Rattle.tie_walk.specs.Sequences.{gain};
 ghost use Rattle.tie_walk.specs.Values.{thiele_value};
 ghost use Rattle.thiele_search.specs.Steps.Columns.{block_voters, total, AreColumns, voter_ballot};
-ghost use Rattle.thiele_search.specs.Steps.Uncovered.{AreWithout, IsBranch, is_uncovered, most_left, newly, table_blocks, uncovered_voters, FallsShort};
+ghost use Rattle.thiele_search.specs.Steps.Uncovered.{AreFew, AreWithout, IsBranch, bound_by, is_uncovered, most_left, newly, table_blocks, uncovered_voters, FallsShort};
 
 use crate::columns::{BLOCK_VOTERS, Block, add_row};
 use ballot_base::{CandSet, PLACES, Profile};
@@ -35,8 +35,8 @@ pub(crate) const MOST_LEFT: u8 = 7;
 /// With fewer seats left, a table takes longer than the usual search.
 pub(crate) const FEWEST_LEFT: u8 = 3;
 
-/// The maximum number of times that a threshold is adapted.
-const ADAPTIONS: u8 = 5;
+/// The maximum number of thresholds that are tried for a set.
+const TURNS: u8 = 5;
 
 /// For each block, which of its voters are without a hit.
 type Voters = [u64; TABLE_BLOCKS];
@@ -135,24 +135,22 @@ impl<'a, A: Allocator + Copy> Uncovered<'a, A> {
         if branch.left == 0 {
             return false;
         }
+        let place = usize::from(branch.left);
         let mut open = *branch;
         let mut gains = self.gains(branch);
-        let mut threshold = adapted(&gains, open.left, thresholds[usize::from(open.left)]);
-        thresholds[usize::from(open.left)] = threshold;
-        while let Some(free) = wanted(&gains, &open, threshold) {
-            clear(&mut gains, open.free.minus(free));
-            open.free = free;
-            let next = best_of(&gains, free);
-            if !free.has(next) || u32::from(gains[usize::from(next)]) >= open.due {
+        while let Some(least) = least_wanted(&gains, &open, &mut thresholds[place]) {
+            let kept = keep(&mut gains, open.free, least);
+            let next = kept.best;
+            open.free = kept.free;
+            if !kept.free.has(next) || u32::from(gains[usize::from(next)]) >= open.due {
                 return false;
             }
             let child = self.child(&open, next, gains[usize::from(next)]);
             if !self.falls_short(&child, thresholds) {
                 return false;
             }
-            open.free = free.without(next);
+            open.free = kept.free.without(next);
             gains[usize::from(next)] = 0;
-            threshold = adapted(&gains, open.left, threshold);
         }
         true
     }
@@ -197,9 +195,10 @@ impl<'a, A: Allocator + Copy> Uncovered<'a, A> {
     /// How many of the voters approve a candidate.
     fn gain(&self, voters: &Voters, candidate: u8) -> u16
         requires { candidate ≤ most_candidates }
-        ensures { (set : List ℕ)
+        ensures newly { (set : List ℕ)
             → AreWithout (uncovered_voters self.now.profile.now.rows self.now.set self.now.free) set voters.now
             → result ≡ newly (uncovered_voters self.now.profile.now.rows self.now.set self.now.free) set candidate }
+        ensures few { result ≤ table_blocks * block_voters }
     {
         let mut gain = 0;
         for b in 0..TABLE_BLOCKS {
@@ -211,8 +210,9 @@ impl<'a, A: Allocator + Copy> Uncovered<'a, A> {
     /// The gain of each free candidate.
     fn gains(&self, branch: &Branch) -> Gains
         requires branch { IsBranch self.now.profile.now self.now.set self.now.free branch.now }
-        ensures { (n : ℕ) → has_member branch.now.free n ≡ true → slice_index result n
+        ensures each { (n : ℕ) → has_member branch.now.free n ≡ true → slice_index result n
             ≡ newly (uncovered_voters self.now.profile.now.rows self.now.set self.now.free) branch.now.set n }
+        ensures few { AreFew result }
     {
         let mut gains = [0; PLACES];
         for candidate in branch.free.members() {
@@ -229,91 +229,116 @@ fn others(voters: u64, column: u64) -> u64
     voters & !column
 }
 
-/// The total by which gains exceed a threshold.
-fn excess(gains: &Gains, threshold: u16) -> u32
-    ensures small { result ≤ (most_candidates + 1) * 2 ^ 16 }
-    ensures sum { result ≡ total (λ n. slice_index gains.now n - threshold) (most_candidates + 1) }
-{
-    let mut sum = 0;
-    for n in 0..PLACES {
-        sum += u32::from(gains[n].saturating_sub(threshold));
-    }
-    sum
+/// By how much the gains exceed a threshold, in all, and how many of them do.
+#[derive(Clone, Copy)]
+struct Excess {
+    more: u16,
+    above: u16,
 }
 
-/// The candidates whose gain is at least `least`.
-fn at_least(gains: &Gains, candidates: CandSet, least: u16) -> CandSet
-    ensures { result ≡ filter (λ n. nat_le least (slice_index gains.now n)) candidates }
+/// What exceeds a threshold.
+fn excess_over(gains: &Gains, threshold: u16) -> Excess
+    requires few { AreFew gains.now }
+    ensures more { result.more ≡ total (λ n. slice_index gains.now n - threshold) (most_candidates + 1) }
+    ensures small { result.more ≤ (most_candidates + 1) * (table_blocks * block_voters) }
 {
-    let mut reaching = candidates;
-    for candidate in candidates.members() {
-        if gains[usize::from(candidate)] < least {
-            reaching = reaching.without(candidate);
+    let mut more = 0;
+    let mut above: u16 = 0;
+    for n in 0..PLACES {
+        let gain = gains[n];
+        more += gain.saturating_sub(threshold);
+        above = above.wrapping_add(u16::from(gain > threshold));
+    }
+    Excess { more, above }
+}
+
+/// A bound on what some candidates gain together, by a threshold, and how many gains exceed it.
+#[derive(Clone, Copy)]
+struct Bound {
+    most: u32,
+    threshold: u16,
+    above: u16,
+}
+
+/// The bound for `left` candidates by a threshold: each of them gains the threshold, and what exceeds it.
+fn bound_at(gains: &Gains, left: u8, threshold: u16) -> Bound
+    requires few { AreFew gains.now }
+    ensures most { result.most ≡ bound_by (slice_index gains.now) left threshold }
+    ensures threshold { result.threshold ≡ threshold }
+{
+    let excess = excess_over(gains, threshold);
+    Bound {
+        most: u32::from(left) * u32::from(threshold) + u32::from(excess.more),
+        threshold,
+        above: excess.above,
+    }
+}
+
+impl Bound {
+    /// A threshold nearby that about `left` gains exceed. Any answer works.
+    fn nearer(self, left: u8) -> u16 {
+        let left = u16::from(left);
+        if self.above > left {
+            self.threshold
+                .saturating_add((self.above - left).div_ceil(2))
+        } else {
+            self.threshold
+                .saturating_sub((left - self.above).div_ceil(2))
         }
     }
-    reaching
 }
 
-/// Narrows the free candidates of a branch to those who can be among the ones that gain what is due. Returns `None`
-/// only if no such candidates do. Any threshold is sound.
-fn wanted(gains: &Gains, branch: &Branch, threshold: u16) -> Option<CandSet>
+/// The gain that a free candidate of a branch needs to be among the ones that gain what is due. Returns `None` only if
+/// no such candidates do. `threshold` is where a threshold is looked for, and then the last one. Any is sound.
+fn least_wanted(gains: &Gains, branch: &Branch, threshold: &mut u16) -> Option<u16>
+    requires few { AreFew gains.now }
     ensures { MatchOption result (AreTooLow (slice_index gains.now) branch.now.free branch.now.left branch.now.due)
-        (AreWanted (slice_index gains.now) branch.now.free branch.now.left branch.now.due) }
+        (λ least. AreWanted (slice_index gains.now) branch.now.free branch.now.left branch.now.due
+        (filter (λ n. nat_le least (slice_index gains.now n)) branch.now.free)) }
 {
-    let most = u32::from(branch.left) * u32::from(threshold) + excess(gains, threshold);
-    if most < branch.due {
+    let mut last = bound_at(gains, branch.left, *threshold);
+    for _ in 1..TURNS {
+        let next = last.nearer(branch.left);
+        if last.most < branch.due || next == last.threshold {
+            break;
+        }
+        last = bound_at(gains, branch.left, next);
+    }
+    *threshold = last.threshold;
+    if last.most < branch.due {
         return None;
     }
     // A candidate below the threshold leaves some of it unused.
-    let least = u32::from(threshold).saturating_sub(most - branch.due);
-    Some(at_least(gains, branch.free, least as u16))
+    let least = u32::from(last.threshold).saturating_sub(last.most - branch.due);
+    Some(least as u16)
 }
 
-/// Sets the gains of these candidates to 0.
-fn clear(gains: &mut Gains, candidates: CandSet)
-    ensures { (n : ℕ) → has_member candidates n ≡ false → slice_index gains.new n ≡ slice_index gains.old n }
+/// The candidates that are kept, and one of them with the highest gain, or 0 if none gains anything. Any answer works.
+#[derive(Clone, Copy)]
+struct Kept {
+    free: CandSet,
+    best: u8,
+}
+
+/// Keeps the candidates whose gain is at least `least`, and sets the gains of the others to 0.
+fn keep(gains: &mut Gains, candidates: CandSet, least: u16) -> Kept
+    requires few { AreFew gains.old }
+    ensures free { result.free ≡ filter (λ n. nat_le least (slice_index gains.old n)) candidates }
+    ensures same { (n : ℕ) → has_member result.free n ≡ true → slice_index gains.new n ≡ slice_index gains.old n }
+    ensures few { AreFew gains.new }
 {
-    for candidate in candidates.members() {
-        gains[usize::from(candidate)] = 0;
-    }
-}
-
-/// A candidate with the highest gain, or 0 if none gains anything. Any answer works.
-fn best_of(gains: &Gains, candidates: CandSet) -> u8 {
+    let mut free = candidates;
     let mut best = 0;
     let mut most = 0;
     for candidate in candidates.members() {
         let gain = gains[usize::from(candidate)];
-        if gain > most {
+        if gain < least {
+            free = free.without(candidate);
+            gains[usize::from(candidate)] = 0;
+        } else if gain > most {
             most = gain;
             best = candidate;
         }
     }
-    best
-}
-
-/// How many gains exceed a threshold.
-fn above(gains: &Gains, threshold: u16) -> u16 {
-    let mut count = 0_u16;
-    for gain in gains {
-        count = count.wrapping_add(u16::from(*gain > threshold));
-    }
-    count
-}
-
-/// A threshold that about `left` gains exceed, from a threshold nearby. Any answer works.
-fn adapted(gains: &Gains, left: u8, threshold: u16) -> u16 {
-    let left = u16::from(left);
-    let mut threshold = threshold;
-    for _ in 0..ADAPTIONS {
-        let above = above(gains, threshold);
-        if above > left {
-            threshold = threshold.saturating_add((above - left).div_ceil(2));
-        } else if above < left {
-            threshold = threshold.saturating_sub((left - above).div_ceil(2));
-        } else {
-            break;
-        }
-    }
-    threshold
+    Kept { free, best }
 }

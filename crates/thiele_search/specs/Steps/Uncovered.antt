@@ -1,10 +1,10 @@
 -- The voters without a hit at a node under the rule of Chamberlin and Courant.
-use Rattle.std.specs.Prelude.{ℕ, true, ◌≡◌, ◌+◌, ◌*◌, ◌<◌, ◌≤◌, ◌==◌, ◌&&◌, Bool, not, List, filter, slice_index, if◌then◌else◌}
+use Rattle.std.specs.Prelude.{ℕ, true, ◌≡◌, ◌+◌, ◌-◌, ◌*◌, ◌<◌, ◌≤◌, ◌==◌, ◌&&◌, Bool, not, List, filter, slice_index, if◌then◌else◌}
 use Rattle.std.specs.Int.{bit_at}
 use Rattle.ballot_base.specs.Ballots.{Row, Election, IsElection, hits}
 use Rattle.ballot_base.specs.CandSet.{has_member}
 use Rattle.ballot_base.specs.Increments.{increments}
-use Rattle.ballot_base.specs.Limits.{most_members}
+use Rattle.ballot_base.specs.Limits.{most_candidates, most_members}
 use Rattle.ballot_base.specs.declared.increments.ThieleRule.TheVariants.{Cc}
 use Rattle.row_multipliers.specs.Completions.{IsNode, IsOutOfReach}
 use Rattle.tie_walk.specs.Values.{thiele_value}
@@ -34,7 +34,15 @@ joins set c ballot = if has_member ballot c then (if hits ballot set == 0 then 1
 abbrev pub newly : List (List ℕ) → List ℕ → ℕ → ℕ
 newly ballots set c = total (λ v. joins set c (voter_ballot ballots v)) (table_blocks * block_voters)
 
--- the words tell which voters have no hit in the set
+-- no gain is above the number of voters that a table has room for
+abbrev pub AreFew : List ℕ → Type 0
+AreFew gains = (n : ℕ) → slice_index gains n ≤ table_blocks * block_voters
+
+-- a bound on what `left` candidates gain: each gains the threshold, and what exceeds it
+abbrev pub bound_by : (ℕ → ℕ) → ℕ → ℕ → ℕ
+bound_by gains left threshold = left * threshold + total (λ n. gains n - threshold) (most_candidates + 1)
+
+-- a bit of the words is set for each voter without a hit in the set
 abbrev pub AreWithout : List (List ℕ) → List ℕ → List ℕ → Type 0
 AreWithout ballots set voters = (b i : ℕ) → b < table_blocks → i < block_voters → bit_at (slice_index voters b) i
     ≡ (if hits (voter_ballot ballots (b * block_voters + i)) set == 0 then 1 else 0)

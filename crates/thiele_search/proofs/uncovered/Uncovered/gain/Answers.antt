@@ -41,9 +41,12 @@ loop-b-preserved g c =
       most = omega (arith, c.loop-b.invariant.most, ones-and (get_or (get_or table.blocks b []) c.from.result 0) word (c.fits-voters b));
     }
 
-pub returns : goal.returns
-returns g c set without =
+pub returns-clause-newly : goal.returns-clause-newly
+returns-clause-newly g c set without =
     let table = c.args.self.now in
     c.loop-b.invariant.counted set without
     ∙ ap (λ b. total (λ v. joins set c.args.candidate (voter_ballot (uncovered_voters table.profile.now.rows table.set table.free) v)) (b * block_voters))
     (let e : c.loop-b.b ≡ 4 = omega (arith, c.loop-b-test.false, c.loop-b.auto.b-end) in e)
+
+pub returns-clause-few : goal.returns-clause-few
+returns-clause-few g c = omega (arith, c.loop-b.invariant.most, c.loop-b.auto.b-end)

@@ -6,6 +6,7 @@ use Rattle.ballot_base.specs.Limits.{most_candidates}
 use Rattle.ballot_base.proofs.MemberLemmas.{others-same}
 use Rattle.ballot_base.proofs.Passed.{rest-up}
 use Rattle.thiele_search.specs.Steps.Uncovered.{newly, uncovered_voters}
+use Rattle.thiele_search.proofs.UncoveredLemmas.{few-set, few-zeros}
 use Rattle.thiele_search.proofs.uncovered.Uncovered.gains.Goals as goal
 
 pub loop-candidate-init : goal.loop-candidate-init
@@ -13,6 +14,7 @@ loop-candidate-init g c =
     rw (c.into_iter-candidate-iterator.ensures.into_iter_gives ∙ c.members-candidate-items.ensures.items) record {
       rises = c.members-candidate-items.ensures.valid;
       long = refl;
+      few = λ n. few-zeros n;
       made = λ n is out. absurd (let e : true ≡ false = sym is ∙ out in cc);
     }
 
@@ -38,11 +40,12 @@ loop-candidate-preserved g c =
     record {
       rises = up.1;
       long = simp length-set inv.long;
+      few = few-set c.loop-candidate.gains at x c.gain.ensures.few inv.few;
       made = λ n is out. elim (cases_eq n first) [
         | inl same ↦
             ap (λ j. get_or (set c.loop-candidate.gains at x) j 0) (same ∙ sym c.from.ensures)
             ∙ get_or-set_same c.loop-candidate.gains at x 0 (omega (arith, inv.long, c.from.ensures, up.0))
-            ∙ c.gain.ensures branch.set c.requires.branch.voters
+            ∙ c.gain.ensures.newly branch.set c.requires.branch.voters
             ∙ ap (newly (uncovered_voters table.profile.now.rows table.set table.free) branch.set) (sym same)
         | inr other ↦
             get_or-set_other c.loop-candidate.gains at n x 0 (λ e. other (e ∙ c.from.ensures))
@@ -50,5 +53,8 @@ loop-candidate-preserved g c =
       ];
     }
 
-pub returns : goal.returns
-returns g c n is = c.loop-candidate.invariant.made n is (ap (λ l. has_member l n) c.in-None.ensures.steps.0)
+pub returns-clause-each : goal.returns-clause-each
+returns-clause-each g c n is = c.loop-candidate.invariant.made n is (ap (λ l. has_member l n) c.in-None.ensures.steps.0)
+
+pub returns-clause-few : goal.returns-clause-few
+returns-clause-few g c n = c.loop-candidate.invariant.few n
