@@ -36,8 +36,6 @@ const LARGE_GAP: u128 = 64;
 /// The effort at a node.
 pub const NODE: Effort = Effort {
     rounds: 15,
-    pace: 410,
-    least_pace: 20,
     patience: 4,
     large_gap: None,
 };
@@ -49,8 +47,6 @@ pub const AGAIN: Effort = Effort { rounds: 4, ..NODE };
 fn root(units: u128) -> Effort {
     Effort {
         rounds: 600,
-        pace: multipliers::WHOLE,
-        least_pace: 1,
         patience: 20,
         large_gap: Some(units / LARGE_GAP),
         ..NODE
