@@ -34,6 +34,8 @@ pub struct TripleSearch<'a, A: Allocator + Copy> {
     pub profile: &'a Profile<A>,
     pub given: &'a HitSums,
     pub least: u128,
+    /// By how many eighths of a hit cubics are exact sooner than at nine eighths of the mean number of hits.
+    pub shift: u8,
     ghost size: { profile.now.m ≤ most_candidates },
     ghost fits: { voter_count profile.now.rows * most_sum given.now.sums ≤ most_overlap },
 }
@@ -75,15 +77,19 @@ impl<A: Allocator + Copy> TripleSearch<'_, A> {
         requires is_node { IsNode self.now.profile.now.m node.now.set node.now.free }
         requires some { 1 ≤ length node.now.free }
         requires nothing { AreNothing totals.old.constant totals.old.worths totals.old.overlaps }
-        ensures cubics { AreCubics self.now.given.now.sums self.now.profile.now.rows node.now totals.new.constant
-            totals.new.worths totals.new.overlaps }
+        ensures cubics { AreCubics self.now.given.now.sums self.now.shift self.now.profile.now.rows node.now
+            totals.new.constant totals.new.worths totals.new.overlaps }
         ensures small { AreSmall totals.new }
         ensures valid { IsElection self.now.profile.now }
     {
         for (ballot, voters) in self.profile.ballots() {
             let approved = ballot.common(node.free);
             let before = ballot.common(node.set).len();
-            let cubic = Cubic::of(&self.given.sums, before, touch_at(node, approved.len()));
+            let cubic = Cubic::of(
+                &self.given.sums,
+                before,
+                touch_at(node, approved.len(), self.shift),
+            );
             let most = node.left.min(approved.len());
             let majorant = Majorant {
                 constant: cubic.constant(&self.given.sums, before, most),
@@ -100,11 +106,11 @@ impl<A: Allocator + Copy> TripleSearch<'_, A> {
         requires some { 1 ≤ length node.now.free }
         requires raised { AreRaised totals.now node.now.left raise }
         ensures { (i : ℕ) → has_member node.now.free i ≡ true → IsSumOfOne (three_at totals.now
-            (all_triples (row_triple self.now.given.now.sums node.now.set node.now.free node.now.left)
+            (all_triples (row_triple self.now.given.now.sums self.now.shift node.now.set node.now.free node.now.left)
             self.now.profile.now.rows) node.now.left raise) node.now.free node.now.left i (slice_index result i) }
     {
         let bends = Bends {
-            touches: touches_at(node),
+            touches: touches_at(node, self.shift),
             triples: triples_of(&self.given.sums),
         };
         let mut sums = Worths::none();
@@ -126,10 +132,10 @@ impl<A: Allocator + Copy> TripleSearch<'_, A> {
     /// Adds up the triples of all voters who approve the candidate `i`, for each pair of the other free candidates.
     fn add_triples(&self, triples: &mut Table, node: &Node, i: u8, bends: &Bends)
         requires is_node { IsNode self.now.profile.now.m node.now.set node.now.free }
-        requires bends { AreBends self.now.given.now.sums node.now bends.now }
+        requires bends { AreBends self.now.given.now.sums self.now.shift node.now bends.now }
         requires some { 1 ≤ length node.now.free }
         requires nothing { (j l : ℕ) → overlap_at triples.old j l ≡ 0 }
-        ensures { AreTriples self.now.given.now.sums self.now.profile.now.rows node.now i triples.new }
+        ensures { AreTriples self.now.given.now.sums self.now.shift self.now.profile.now.rows node.now i triples.new }
     {
         let others = node.free.without(i);
         for (ballot, voters) in self.profile.ballots() {
@@ -142,9 +148,9 @@ impl<A: Allocator + Copy> TripleSearch<'_, A> {
 
     /// The triple of the cubic of a ballot.
     fn triple_with(&self, node: &Node, ballot: CandSet, bends: &Bends) -> u64
-        requires { AreBends self.now.given.now.sums node.now bends.now }
+        requires { AreBends self.now.given.now.sums self.now.shift node.now bends.now }
         ensures value { result ≡ triple_at self.now.given.now.sums (hits ballot node.now.set)
-            (touch_of node.now.left (length node.now.free) (hits ballot node.now.free)) }
+            (touch_of self.now.shift node.now.left (length node.now.free) (hits ballot node.now.free)) }
         ensures small { result ≤ most_sum self.now.given.now.sums }
     {
         let before = ballot.common(node.set).len();
@@ -320,28 +326,31 @@ fn triples_of(sums: &[u64; PLACES]) -> [u64; PLACES]
 }
 
 /// `touch_at`, by the number of free candidates that a ballot approves.
-fn touches_at(node: &Node) -> [u8; PLACES]
+fn touches_at(node: &Node, shift: u8) -> [u8; PLACES]
     requires { 1 ≤ length node.now.free }
-    ensures { (n : ℕ) → n ≤ most_candidates → slice_index result n ≡ touch_of node.now.left (length node.now.free) n }
+    ensures { (n : ℕ) → n ≤ most_candidates
+        → slice_index result n ≡ touch_of shift node.now.left (length node.now.free) n }
 {
     let mut touches = [0; PLACES];
     for approved in 0..MOST_CANDIDATES + 1 {
-        touches[usize::from(approved)] = touch_at(node, approved);
+        touches[usize::from(approved)] = touch_at(node, approved, shift);
     }
     touches
 }
 
 /// The number of further hits at which the cubic of a ballot with `approved` free candidates is exact first: somewhat
 /// above the mean number of hits if the free candidates that join are drawn at random, since good committees have more.
-fn touch_at(node: &Node, approved: u8) -> u8
+fn touch_at(node: &Node, approved: u8, shift: u8) -> u8
     requires some { 1 ≤ length node.now.free }
     requires few { approved ≤ most_candidates }
-    ensures value { result ≡ touch_of node.now.left (length node.now.free) approved }
+    ensures value { result ≡ touch_of shift node.now.left (length node.now.free) approved }
     ensures small { result ≤ 61 }
 {
     let most = node.left.min(approved).max(3);
     let free = u32::from(node.free.len());
-    let above = (9 * u32::from(node.left) * u32::from(approved)).saturating_sub(4 * free);
+    let above = (9 * u32::from(node.left) * u32::from(approved)).saturating_sub(
+        u32::from(shift) * free,
+    );
     (above / (8 * free)).min(u32::from(most) - 3) as u8
 }
 

@@ -48,15 +48,15 @@ pub bend-small : (sums : List ℕ) → AreSmallSums sums → (hits : ℕ) → hi
 bend-small sums small hits few = omega (arith, fall-small sums small hits (omega (arith, few)))
 
 -- the cubic of a row is a majorant
-pub cubic-is : (weights sums : List ℕ) (scale unit m : ℕ) (set free : List ℕ) (left : ℕ) → m ≤ most_candidates → IsNode m set free → AreSums weights scale unit sums → (row : Row) → IsIncreasing 1 m row.0
-    → IsCubicMajorant weights scale unit (hits row.0 set) (min left (hits row.0 free)) (row_constant sums set free left row) (row_worth sums set free left row) (row_overlap sums set free left row)
-    (row_triple sums set free left row)
-cubic-is weights sums scale unit m set free left most is_node are row up h few =
+pub cubic-is : (weights sums : List ℕ) (scale unit m shift : ℕ) (set free : List ℕ) (left : ℕ) → m ≤ most_candidates → IsNode m set free → AreSums weights scale unit sums → (row : Row) → IsIncreasing 1 m row.0
+    → IsCubicMajorant weights scale unit (hits row.0 set) (min left (hits row.0 free)) (row_constant sums shift set free left row) (row_worth sums shift set free left row) (row_overlap sums shift set free left row)
+    (row_triple sums shift set free left row)
+cubic-is weights sums scale unit m shift set free left most is_node are row up h few =
     let before = hits row.0 set in
-    let worth = row_worth sums set free left row in
-    let overlap = row_overlap sums set free left row in
-    let triple = row_triple sums set free left row in
-    let constant = row_constant sums set free left row in
+    let worth = row_worth sums shift set free left row in
+    let overlap = row_overlap sums shift set free left row in
+    let triple = row_triple sums shift set free left row in
+    let constant = row_constant sums shift set free left row in
     let low : lack sums before worth overlap triple h ≤ constant = highest-above (lack sums before worth overlap triple) (min left (hits row.0 free) + 1) h (omega (arith, few)) in
     let bounds : get_or sums (before + h) 0 + overlap * (h * (h - 1)) ≤ constant + worth * h + triple * (h * ((h - 1) * (h - 2))) = omega (arith, low) in
     let units : unit * (get_or sums (before + h) 0 + overlap * (h * (h - 1))) ≤ unit * (constant + worth * h + triple * (h * ((h - 1) * (h - 2)))) = mul-le-mul_left unit bounds in
@@ -64,13 +64,13 @@ cubic-is weights sums scale unit m set free left most is_node are row up h few =
     let within : before + h ≤ most_candidates = omega (arith, few, hits-both m row.0 set free up most is_node) in
     omega (arith, units, split unit (get_or sums (before + h) 0) (overlap * (h * (h - 1))), are.up (before + h) within)
 
-pub cubics-are : (weights sums : List ℕ) (scale unit m : ℕ) (set free : List ℕ) (left : ℕ) → m ≤ most_candidates → IsNode m set free → AreSums weights scale unit sums → (rows : List Row)
+pub cubics-are : (weights sums : List ℕ) (scale unit m shift : ℕ) (set free : List ℕ) (left : ℕ) → m ≤ most_candidates → IsNode m set free → AreSums weights scale unit sums → (rows : List Row)
     → AllByRecursion (λ (row : Row). IsIncreasing 1 m row.0) rows
-    → AllByRecursion (λ (row : Row). IsCubicMajorant weights scale unit (hits row.0 set) (min left (hits row.0 free)) (row_constant sums set free left row) (row_worth sums set free left row)
-    (row_overlap sums set free left row) (row_triple sums set free left row)) rows
-cubics-are weights sums scale unit m set free left most is_node are [] ups = tt
-cubics-are weights sums scale unit m set free left most is_node are (row ∷ rows) ups =
-    (cubic-is weights sums scale unit m set free left most is_node are row ups.0, cubics-are weights sums scale unit m set free left most is_node are rows ups.1)
+    → AllByRecursion (λ (row : Row). IsCubicMajorant weights scale unit (hits row.0 set) (min left (hits row.0 free)) (row_constant sums shift set free left row) (row_worth sums shift set free left row)
+    (row_overlap sums shift set free left row) (row_triple sums shift set free left row)) rows
+cubics-are weights sums scale unit m shift set free left most is_node are [] ups = tt
+cubics-are weights sums scale unit m shift set free left most is_node are (row ∷ rows) ups =
+    (cubic-is weights sums scale unit m shift set free left most is_node are row ups.0, cubics-are weights sums scale unit m shift set free left most is_node are rows ups.1)
 
 -- ---- sums over rows
 

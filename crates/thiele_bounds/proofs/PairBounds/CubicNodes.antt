@@ -34,14 +34,14 @@ place-turned i j =
     let low : min i j ≡ min j i = omega arith in
     omega (arith, ap (λ n. n * (n + 1) / 2) high, low)
 
-module _ (weights sums : List ℕ) (scale unit m : ℕ) (rows : List Row) (node : Node) (totals : Totals) (is_node : IsNode m node.set node.free) (size : m ≤ most_candidates) (are : AreSums weights scale unit sums)
-    (ups : AllByRecursion (λ (row : Row). IsIncreasing 1 m row.0) rows) (cubics : AreCubics sums rows node totals.constant totals.worths totals.overlaps) (least needed raise : ℕ) (raised : AreRaised totals node.left raise)
+module _ (weights sums : List ℕ) (scale unit m shift : ℕ) (rows : List Row) (node : Node) (totals : Totals) (is_node : IsNode m node.set node.free) (size : m ≤ most_candidates) (are : AreSums weights scale unit sums)
+    (ups : AllByRecursion (λ (row : Row). IsIncreasing 1 m row.0) rows) (cubics : AreCubics sums shift rows node totals.constant totals.worths totals.overlaps) (least needed raise : ℕ) (raised : AreRaised totals node.left raise)
     (units : (value : ℕ) → scale * least ≤ unit * value → needed ≤ value) (bounds : List ℕ)
     (bounds_are : (i : ℕ) → has_member node.free i ≡ true
-    → IsSumOfOne (three_at totals (all_triples (row_triple sums node.set node.free node.left) rows) node.left raise) node.free node.left i (get_or bounds i 0)) (due : ℕ)
+    → IsSumOfOne (three_at totals (all_triples (row_triple sums shift node.set node.free node.left) rows) node.left raise) node.free node.left i (get_or bounds i 0)) (due : ℕ)
     (due_low : due ≤ 3 * (node.left - 1) * (node.left - 2) * needed + node.left * (node.left - 1) * (node.left - 2) * raise - 3 * (node.left - 1) * (node.left - 2) * totals.constant) where
   abbrev third_of : ℕ → ℕ → ℕ → ℕ
-  third_of i j l = all_triples (row_triple sums node.set node.free node.left) rows i j l
+  third_of i j l = all_triples (row_triple sums shift node.set node.free node.left) rows i j l
 
   abbrev three : ℕ → ℕ → ℕ → ℕ
   three = three_at totals third_of node.left raise
@@ -66,17 +66,17 @@ module _ (weights sums : List ℕ) (scale unit m : ℕ) (rows : List Row) (node 
     reach-low : needed + sum_of_pairs (overlap_at totals.overlaps) more ≤ totals.constant + (sum_by (slice_index totals.worths) more + sum_of_triples third_of more)
     reach-low =
         let value : scale * least ≤ scale * thiele_value weights rows committee = mul-le-mul_left scale reaches in
-        let bound = triples-bound weights scale unit m node.set node.free node.left committee is_node whole (row_constant sums node.set node.free node.left) (row_worth sums node.set node.free node.left)
-        (row_overlap sums node.set node.free node.left) (row_triple sums node.set node.free node.left) rows ups (cubics-are weights sums scale unit m node.set node.free node.left size is_node are rows ups) in
-        let worths : sum_by (slice_index totals.worths) more ≡ sum_by (all_worth (row_worth sums node.set node.free node.left) rows) more =
-        sum-equal (slice_index totals.worths) (all_worth (row_worth sums node.set node.free node.left) rows) more (λ n here. cubics.worths_are n (free-is n here)) in
-        let pairs : sum_of_pairs (overlap_at totals.overlaps) more ≡ sum_of_pairs (all_overlap (row_overlap sums node.set node.free node.left) rows) more =
-        sum-equal (λ i. sum_by (overlap_at totals.overlaps i) (without_member more i)) (λ i. sum_by (all_overlap (row_overlap sums node.set node.free node.left) rows i) (without_member more i)) more
-        (λ i here. sum-equal (overlap_at totals.overlaps i) (all_overlap (row_overlap sums node.set node.free node.left) rows i) (without_member more i)
+        let bound = triples-bound weights scale unit m node.set node.free node.left committee is_node whole (row_constant sums shift node.set node.free node.left) (row_worth sums shift node.set node.free node.left)
+        (row_overlap sums shift node.set node.free node.left) (row_triple sums shift node.set node.free node.left) rows ups (cubics-are weights sums scale unit m shift node.set node.free node.left size is_node are rows ups) in
+        let worths : sum_by (slice_index totals.worths) more ≡ sum_by (all_worth (row_worth sums shift node.set node.free node.left) rows) more =
+        sum-equal (slice_index totals.worths) (all_worth (row_worth sums shift node.set node.free node.left) rows) more (λ n here. cubics.worths_are n (free-is n here)) in
+        let pairs : sum_of_pairs (overlap_at totals.overlaps) more ≡ sum_of_pairs (all_overlap (row_overlap sums shift node.set node.free node.left) rows) more =
+        sum-equal (λ i. sum_by (overlap_at totals.overlaps i) (without_member more i)) (λ i. sum_by (all_overlap (row_overlap sums shift node.set node.free node.left) rows i) (without_member more i)) more
+        (λ i here. sum-equal (overlap_at totals.overlaps i) (all_overlap (row_overlap sums shift node.set node.free node.left) rows i) (without_member more i)
         (λ j there. cubics.overlaps_are i j (free-is i here) (free-is j (without-is more i j there)))) in
         let all : ℕ = totals.constant + (sum_by (slice_index totals.worths) more + sum_of_triples third_of more) in
-        let same : unit * all ≡ unit * (all_constants (row_constant sums node.set node.free node.left) rows + sum_by (all_worth (row_worth sums node.set node.free node.left) rows) more + sum_of_triples third_of more) =
-        ap (λ n. unit * n) (let e : all ≡ all_constants (row_constant sums node.set node.free node.left) rows + sum_by (all_worth (row_worth sums node.set node.free node.left) rows) more + sum_of_triples third_of more =
+        let same : unit * all ≡ unit * (all_constants (row_constant sums shift node.set node.free node.left) rows + sum_by (all_worth (row_worth sums shift node.set node.free node.left) rows) more + sum_of_triples third_of more) =
+        ap (λ n. unit * n) (let e : all ≡ all_constants (row_constant sums shift node.set node.free node.left) rows + sum_by (all_worth (row_worth sums shift node.set node.free node.left) rows) more + sum_of_triples third_of more =
         omega (arith, cubics.constant_is, worths) in e) in
         units-low scale unit least needed all (sum_of_pairs (overlap_at totals.overlaps) more) are.some units (omega (arith, value, bound, same, ap (λ n. unit * n) pairs))
 

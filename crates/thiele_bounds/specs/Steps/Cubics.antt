@@ -49,25 +49,27 @@ unfoldable pub highest : (ℕ → ℕ) → ℕ → ℕ
 highest number zero = 0
 highest number (suc n) = max (number n) (highest number n)
 
--- the number of further hits at which the cubic of a ballot is exact first: somewhat above the mean number of hits if
--- `left` of the free candidates are drawn at random, since good committees have more hits
-abbrev pub touch_of : ℕ → ℕ → ℕ → ℕ
-touch_of left free approved = min ((9 * left * approved - 4 * free) / (8 * free)) (max (min left approved) 3 - 3)
+-- the number of further hits at which the cubic of a ballot is exact first: nine eighths of the mean number of hits if
+-- `left` of the free candidates are drawn at random, since good committees have more hits, less `shift` eighths
+abbrev pub touch_of : ℕ → ℕ → ℕ → ℕ → ℕ
+touch_of shift left free approved =
+    min ((9 * left * approved - shift * free) / (8 * free)) (max (min left approved) 3 - 3)
 
 -- the cubic of a row at a node
-abbrev pub row_touch : List ℕ → ℕ → Row → ℕ
-row_touch free left row = touch_of left (length free) (hits row.0 free)
+abbrev pub row_touch : ℕ → List ℕ → ℕ → Row → ℕ
+row_touch shift free left row = touch_of shift left (length free) (hits row.0 free)
 
-abbrev pub row_worth : List ℕ → List ℕ → List ℕ → ℕ → Row → ℕ
-row_worth sums set free left row = worth_at sums (hits row.0 set) (row_touch free left row)
+abbrev pub row_worth : List ℕ → ℕ → List ℕ → List ℕ → ℕ → Row → ℕ
+row_worth sums shift set free left row = worth_at sums (hits row.0 set) (row_touch shift free left row)
 
-abbrev pub row_overlap : List ℕ → List ℕ → List ℕ → ℕ → Row → ℕ
-row_overlap sums set free left row = overlap_of sums (hits row.0 set) (row_touch free left row)
+abbrev pub row_overlap : List ℕ → ℕ → List ℕ → List ℕ → ℕ → Row → ℕ
+row_overlap sums shift set free left row = overlap_of sums (hits row.0 set) (row_touch shift free left row)
 
-abbrev pub row_triple : List ℕ → List ℕ → List ℕ → ℕ → Row → ℕ
-row_triple sums set free left row = triple_at sums (hits row.0 set) (row_touch free left row)
+abbrev pub row_triple : List ℕ → ℕ → List ℕ → List ℕ → ℕ → Row → ℕ
+row_triple sums shift set free left row = triple_at sums (hits row.0 set) (row_touch shift free left row)
 
-abbrev pub row_constant : List ℕ → List ℕ → List ℕ → ℕ → Row → ℕ
-row_constant sums set free left row =
-    highest (lack sums (hits row.0 set) (row_worth sums set free left row) (row_overlap sums set free left row)
-    (row_triple sums set free left row)) (min left (hits row.0 free) + 1)
+abbrev pub row_constant : List ℕ → ℕ → List ℕ → List ℕ → ℕ → Row → ℕ
+row_constant sums shift set free left row =
+    highest (lack sums (hits row.0 set) (row_worth sums shift set free left row)
+    (row_overlap sums shift set free left row) (row_triple sums shift set free left row))
+    (min left (hits row.0 free) + 1)

@@ -15,24 +15,24 @@ use Rattle.thiele_bounds.specs.declared.triples.Bends.{Bends}
 use Rattle.thiele_bounds.specs.declared.triples.Plane.{Plane}
 
 -- the totals are those of the rows' cubics
-pub record AreCubics (sums : List ℕ) (rows : List Row) (node : Node) (constant : ℕ) (worths table : List ℕ) : Type 0
-  where
-    pub constant_is : constant ≡ all_constants (row_constant sums node.set node.free node.left) rows
-    pub worths_are : (n : ℕ) → has_member node.free n ≡ true
-        → slice_index worths n ≡ all_worth (row_worth sums node.set node.free node.left) rows n
-    pub overlaps_are : (i j : ℕ) → has_member node.free i ≡ true → has_member node.free j ≡ true
-        → overlap_at table i j ≡ all_overlap (row_overlap sums node.set node.free node.left) rows i j
+pub record AreCubics (sums : List ℕ) (shift : ℕ) (rows : List Row) (node : Node) (constant : ℕ)
+    (worths table : List ℕ) : Type 0 where
+  pub constant_is : constant ≡ all_constants (row_constant sums shift node.set node.free node.left) rows
+  pub worths_are : (n : ℕ) → has_member node.free n ≡ true
+      → slice_index worths n ≡ all_worth (row_worth sums shift node.set node.free node.left) rows n
+  pub overlaps_are : (i j : ℕ) → has_member node.free i ≡ true → has_member node.free j ≡ true
+      → overlap_at table i j ≡ all_overlap (row_overlap sums shift node.set node.free node.left) rows i j
 
 -- the triples of the rows' cubics with the candidate i
-abbrev pub AreTriples : List ℕ → List Row → Node → ℕ → List ℕ → Type 0
-AreTriples sums rows node i table = (j l : ℕ) → has_member (without_member node.free i) j ≡ true
+abbrev pub AreTriples : List ℕ → ℕ → List Row → Node → ℕ → List ℕ → Type 0
+AreTriples sums shift rows node i table = (j l : ℕ) → has_member (without_member node.free i) j ≡ true
     → has_member (without_member node.free i) l ≡ true
-    → overlap_at table j l ≡ all_triples (row_triple sums node.set node.free node.left) rows i j l
+    → overlap_at table j l ≡ all_triples (row_triple sums shift node.set node.free node.left) rows i j l
 
 -- where cubics at a node are exact first, and their triples
-pub record AreBends (sums : List ℕ) (node : Node) (bends : Bends) : Type 0 where
+pub record AreBends (sums : List ℕ) (shift : ℕ) (node : Node) (bends : Bends) : Type 0 where
   pub touches_are : (n : ℕ) → n ≤ most_candidates
-      → slice_index bends.touches n ≡ touch_of node.left (length node.free) n
+      → slice_index bends.touches n ≡ touch_of shift node.left (length node.free) n
   pub triples_are : (n : ℕ) → n ≤ 61 → slice_index bends.triples n ≡ bend_at sums n / 6
 
 -- the worth of three, by totals

@@ -10,5 +10,5 @@ loop-approved-preserved c =
     let node = c.args.node.now in
     rw c.from.ensures record {
       long = length-set c.loop-approved.touches c.loop-approved.approved _ ∙ inv.long;
-      made = set-made (λ x n. n ≡ touch_of node.left (length node.free) x) c.loop-approved.touches c.loop-approved.approved c.touch_at.result (omega (arith, inv.long, c.loop-approved-test.true)) inv.made c.touch_at.ensures.value;
+      made = set-made (λ x n. n ≡ touch_of c.args.shift node.left (length node.free) x) c.loop-approved.touches c.loop-approved.approved c.touch_at.result (omega (arith, inv.long, c.loop-approved-test.true)) inv.made c.touch_at.ensures.value;
     }

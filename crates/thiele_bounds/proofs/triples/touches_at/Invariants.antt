@@ -6,5 +6,5 @@ use Rattle.thiele_bounds.proofs.triples.touches_at.Given as goal
 abbrev pub invariant-loop-approved : goal.invariant-loop-approved
 invariant-loop-approved l = record {
   long : length l.touches ≡ 65;
-  made : (x : ℕ) → x < l.approved → get_or l.touches x 0 ≡ touch_of l.node.left (length l.node.free) x;
+  made : (x : ℕ) → x < l.approved → get_or l.touches x 0 ≡ touch_of l.shift l.node.left (length l.node.free) x;
 }

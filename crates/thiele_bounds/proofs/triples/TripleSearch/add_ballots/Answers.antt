@@ -106,43 +106,43 @@ loop-ballot-preserved g c =
     let before : c.len-before.result ≡ hits row.0 set = c.len-before.ensures.count ∙ ap length c.common.ensures ∙ length-common row.0 set in
     let open_ : c.len.result ≡ hits row.0 free = c.len.ensures.count ∙ ap length c.common-approved.ensures ∙ length-common row.0 free in
     let many : c.len-in-loop-ballot.result ≡ hits row.0 free = c.len-in-loop-ballot.ensures.count ∙ ap length c.common-approved.ensures ∙ length-common row.0 free in
-    let touch : c.touch_at.result ≡ touch_of node.left (length free) (hits row.0 free) = c.touch_at.ensures.value ∙ ap (touch_of node.left (length free)) open_ in
-    let worth : cubic.worth ≡ row_worth sums set free node.left row =
+    let touch : c.touch_at.result ≡ touch_of c.args.self.now.shift node.left (length free) (hits row.0 free) = c.touch_at.ensures.value ∙ ap (touch_of c.args.self.now.shift node.left (length free)) open_ in
+    let worth : cubic.worth ≡ row_worth sums c.args.self.now.shift set free node.left row =
     c.of-cubic.ensures.worth ∙ ap (λ n. worth_at sums n c.touch_at.result) before ∙ ap (worth_at sums (hits row.0 set)) touch in
-    let overlap : cubic.overlap ≡ row_overlap sums set free node.left row =
+    let overlap : cubic.overlap ≡ row_overlap sums c.args.self.now.shift set free node.left row =
     c.of-cubic.ensures.overlap ∙ ap (λ n. overlap_of sums n c.touch_at.result) before ∙ ap (overlap_of sums (hits row.0 set)) touch in
-    let triple : cubic.triple ≡ triple_at sums (hits row.0 set) (touch_of node.left (length free) (hits row.0 free)) =
+    let triple : cubic.triple ≡ triple_at sums (hits row.0 set) (touch_of c.args.self.now.shift node.left (length free) (hits row.0 free)) =
     c.of-cubic.ensures.triple ∙ ap (λ n. triple_at sums n c.touch_at.result) before ∙ ap (triple_at sums (hits row.0 set)) touch in
     let most : c.min-most.result ≡ min node.left (hits row.0 free) = c.min-most.ensures ∙ ap (min node.left) many in
-    let constant : c.constant.result ≡ row_constant sums set free node.left row =
+    let constant : c.constant.result ≡ row_constant sums c.args.self.now.shift set free node.left row =
     c.constant.ensures.value
     ∙ ap (λ n. highest (lack sums n cubic.worth cubic.overlap cubic.triple) (c.min-most.result + 1)) before
     ∙ ap (λ n. highest (lack sums (hits row.0 set) n cubic.overlap cubic.triple) (c.min-most.result + 1)) worth
-    ∙ ap (λ n. highest (lack sums (hits row.0 set) (row_worth sums set free node.left row) n cubic.triple) (c.min-most.result + 1)) overlap
-    ∙ ap (λ n. highest (lack sums (hits row.0 set) (row_worth sums set free node.left row) (row_overlap sums set free node.left row) n) (c.min-most.result + 1)) triple
-    ∙ ap (λ n. highest (lack sums (hits row.0 set) (row_worth sums set free node.left row) (row_overlap sums set free node.left row) (row_triple sums set free node.left row)) (n + 1)) most in
+    ∙ ap (λ n. highest (lack sums (hits row.0 set) (row_worth sums c.args.self.now.shift set free node.left row) n cubic.triple) (c.min-most.result + 1)) overlap
+    ∙ ap (λ n. highest (lack sums (hits row.0 set) (row_worth sums c.args.self.now.shift set free node.left row) (row_overlap sums c.args.self.now.shift set free node.left row) n) (c.min-most.result + 1)) triple
+    ∙ ap (λ n. highest (lack sums (hits row.0 set) (row_worth sums c.args.self.now.shift set free node.left row) (row_overlap sums c.args.self.now.shift set free node.left row) (row_triple sums c.args.self.now.shift set free node.left row)) (n + 1)) most in
     let before_totals = c.loop-ballot.totals in
     let totals = c.add.new.self in
-    let more : AreCubics sums (take (i + 1) e.rows) node totals.constant totals.worths totals.overlaps = record {
+    let more : AreCubics sums c.args.self.now.shift (take (i + 1) e.rows) node totals.constant totals.worths totals.overlaps = record {
       constant_is = omega (
         arith,
         c.add.ensures.constant,
         inv.cubics.constant_is,
         ap (λ n. row.1 * n) constant,
-        row-more e.rows i row at (λ (r : Row). r.1 * row_constant sums set free node.left r),
+        row-more e.rows i row at (λ (r : Row). r.1 * row_constant sums c.args.self.now.shift set free node.left r),
       );
       worths_are = λ n here.
           c.add.ensures.worths n
           ∙ ap (λ b. get_or before_totals.worths n 0 + cond b (row.1 * cubic.worth) 0) (ap (λ l. has_member l n) c.common-approved.ensures ∙ free-common row.0 free n here)
           ∙ ap (λ x. get_or before_totals.worths n 0 + cond (has_member row.0 n) (row.1 * x) 0) worth
-          ∙ ap (λ x. x + cond (has_member row.0 n) (row.1 * row_worth sums set free node.left row) 0) (inv.cubics.worths_are n here)
-          ∙ sym (worth-more e.rows i row at (row_worth sums set free node.left) n);
+          ∙ ap (λ x. x + cond (has_member row.0 n) (row.1 * row_worth sums c.args.self.now.shift set free node.left row) 0) (inv.cubics.worths_are n here)
+          ∙ sym (worth-more e.rows i row at (row_worth sums c.args.self.now.shift set free node.left) n);
       overlaps_are = λ a b here there.
           c.add.ensures.overlaps a b (omega (arith, member-high 1 e.m free b c.requires.is_node.free_within there, valid.most))
           ∙ ap (λ x. overlap_at before_totals.overlaps a b + x) (cells-same row.0 free approved a b (row.1 * cubic.overlap) c.common-approved.ensures here there)
           ∙ ap (λ x. overlap_at before_totals.overlaps a b + portion (has_member row.0 a) (has_member row.0 b) (row.1 * x)) overlap
-          ∙ ap (λ x. x + portion (has_member row.0 a) (has_member row.0 b) (row.1 * row_overlap sums set free node.left row)) (inv.cubics.overlaps_are a b here there)
-          ∙ sym (overlap-more e.rows i row at (row_overlap sums set free node.left) a b);
+          ∙ ap (λ x. x + portion (has_member row.0 a) (has_member row.0 b) (row.1 * row_overlap sums c.args.self.now.shift set free node.left row)) (inv.cubics.overlaps_are a b here there)
+          ∙ sym (overlap-more e.rows i row at (row_overlap sums c.args.self.now.shift set free node.left) a b);
     } in
     let all_give = most_sum sums in
     let small_constant : row.1 * c.constant.result ≤ row.1 * (all_give * 2 ^ 13) = mul-le-mul_left row.1 c.constant.ensures.small in
@@ -150,7 +150,7 @@ loop-ballot-preserved g c =
     let small_overlap : row.1 * cubic.overlap ≤ row.1 * all_give = mul-le-mul_left row.1 c.of-cubic.ensures.small.overlap_small in
     let voters = ap (λ n. n * all_give) (voters-more e valid i row at) in
     record {
-      cubics = subst (λ n. AreCubics sums (take n e.rows) node totals.constant totals.worths totals.overlaps) next more;
+      cubics = subst (λ n. AreCubics sums c.args.self.now.shift (take n e.rows) node totals.constant totals.worths totals.overlaps) next more;
       small_constant = subst (λ n. totals.constant ≤ voter_count (take n e.rows) * (all_give * 2 ^ 13)) next (omega (arith, c.add.ensures.constant, small_constant, voters, inv.small_constant));
       small_worths = λ n. subst (λ x. get_or totals.worths n 0 ≤ voter_count (take x e.rows) * (all_give * 2 ^ 8)) next
           (omega (arith, small_worth, voters, inv.small_worths n, c.add.ensures.worths n, part-most (has_member approved n) (row.1 * cubic.worth)));
@@ -165,7 +165,7 @@ returns-clause-cubics g c =
     let e = c.args.self.now.profile.now in
     let totals = c.loop-ballot.totals in
     let all = all_passed e.rows (c.into_iter-ballot-iterator.ensures.into_iter_gives ∙ c.ballots-ballot-items.ensures.rows) c.loop-ballot.yielded c.loop-ballot.yielded_by c.in-None.ensures.steps.0 in
-    subst (λ rows. AreCubics c.args.self.now.given.now.sums rows c.args.node.now totals.constant totals.worths totals.overlaps) all c.loop-ballot.invariant.cubics
+    subst (λ rows. AreCubics c.args.self.now.given.now.sums c.args.self.now.shift rows c.args.node.now totals.constant totals.worths totals.overlaps) all c.loop-ballot.invariant.cubics
 
 pub returns-clause-small : goal.returns-clause-small
 returns-clause-small g c =

@@ -8,7 +8,7 @@ use Rattle.thiele_bounds.proofs.triples.TripleSearch.add_ballots.Given as goal
 -- the totals of the rows so far
 abbrev pub invariant-loop-ballot : goal.invariant-loop-ballot
 invariant-loop-ballot g l = record {
-  cubics : AreCubics l.self.given.now.sums (take (length l.yielded) l.self.profile.now.rows) l.node l.totals.constant l.totals.worths l.totals.overlaps;
+  cubics : AreCubics l.self.given.now.sums l.self.shift (take (length l.yielded) l.self.profile.now.rows) l.node l.totals.constant l.totals.worths l.totals.overlaps;
   small_constant : l.totals.constant ≤ voter_count (take (length l.yielded) l.self.profile.now.rows) * (most_sum l.self.given.now.sums * 2 ^ 13);
   small_worths : (n : ℕ) → get_or l.totals.worths n 0 ≤ voter_count (take (length l.yielded) l.self.profile.now.rows) * (most_sum l.self.given.now.sums * 2 ^ 8);
   self_overlaps : (i j : ℕ) → i ≤ most_candidates → j ≤ most_candidates → overlap_at l.totals.overlaps i j ≤ overlap_at l.totals.overlaps i i;

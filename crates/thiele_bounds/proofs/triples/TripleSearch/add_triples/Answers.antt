@@ -68,10 +68,10 @@ loop-ballot-preserved-then-has g c =
     let valid = c.ballots-ballot-items.ensures.valid in
     let open_ = c.common.result in
     let amount = c.in-Some.voters * c.triple_with-triple.result in
-    let one : ℕ = row_triple given.sums set free node.left row in
+    let one : ℕ = row_triple given.sums c.args.self.now.shift set free node.left row in
     let are : open_ ≡ common_members row.0 others = c.common.ensures ∙ ap (common_members row.0) c.without-others.ensures in
     let has : true ≡ has_member row.0 c.args.i = sym c.if-has.true ∙ c.has.ensures in
-    let more : AreTriples given.sums (take (i + 1) e.rows) node c.args.i c.add_some_pairs.new.table =
+    let more : AreTriples given.sums c.args.self.now.shift (take (i + 1) e.rows) node c.args.i c.add_some_pairs.new.table =
     λ j l here there.
     let low : l ≤ most_candidates = omega (arith, member-high 1 e.m free l c.requires.is_node.free_within (without-is free c.args.i l there), valid.most) in
     c.add_some_pairs.ensures j l low
@@ -79,9 +79,9 @@ loop-ballot-preserved-then-has g c =
     ∙ ap (λ x. overlap_at c.loop-ballot.triples j l + portion (has_member row.0 j) (has_member row.0 l) (row.1 * x)) c.triple_with-triple.ensures.value
     ∙ ap (λ x. overlap_at c.loop-ballot.triples j l + part x (has_member row.0 j) (has_member row.0 l) (row.1 * one)) has
     ∙ ap (λ x. x + part (has_member row.0 c.args.i) (has_member row.0 j) (has_member row.0 l) (row.1 * one)) (inv.triples j l here there)
-    ∙ sym (triple-more e.rows i row at (row_triple given.sums set free node.left) c.args.i j l) in
+    ∙ sym (triple-more e.rows i row at (row_triple given.sums c.args.self.now.shift set free node.left) c.args.i j l) in
     record {
-      triples = subst (λ n. AreTriples given.sums (take n e.rows) node c.args.i c.add_some_pairs.new.table) next more;
+      triples = subst (λ n. AreTriples given.sums c.args.self.now.shift (take n e.rows) node c.args.i c.add_some_pairs.new.table) next more;
       small = λ a b low. subst (λ x. overlap_at c.add_some_pairs.new.table a b ≤ voter_count (take x e.rows) * most_sum given.sums) next
           (omega (
             arith,
@@ -105,18 +105,18 @@ loop-ballot-preserved g c =
     let next = sym (length_push c.loop-ballot.yielded row) in
     let inv = c.loop-ballot.invariant in
     let valid = c.ballots-ballot-items.ensures.valid in
-    let one : ℕ = row_triple given.sums node.set node.free node.left row in
+    let one : ℕ = row_triple given.sums c.args.self.now.shift node.set node.free node.left row in
     let has : has_member row.0 c.args.i ≡ false = sym c.has.ensures ∙ c.if-has.false in
-    let more : AreTriples given.sums (take (i + 1) e.rows) node c.args.i c.loop-ballot.triples =
+    let more : AreTriples given.sums c.args.self.now.shift (take (i + 1) e.rows) node c.args.i c.loop-ballot.triples =
     λ j l here there.
     omega (
       arith,
       inv.triples j l here there,
       ap (λ x. part x (has_member row.0 j) (has_member row.0 l) (row.1 * one)) has,
-      triple-more e.rows i row at (row_triple given.sums node.set node.free node.left) c.args.i j l,
+      triple-more e.rows i row at (row_triple given.sums c.args.self.now.shift node.set node.free node.left) c.args.i j l,
     ) in
     record {
-      triples = subst (λ n. AreTriples given.sums (take n e.rows) node c.args.i c.loop-ballot.triples) next more;
+      triples = subst (λ n. AreTriples given.sums c.args.self.now.shift (take n e.rows) node c.args.i c.loop-ballot.triples) next more;
       small = λ a b low. subst (λ x. overlap_at c.loop-ballot.triples a b ≤ voter_count (take x e.rows) * most_sum given.sums) next
           (omega (arith, ap (λ n. n * most_sum given.sums) (voters-more e valid i row at), inv.small a b low));
     }
@@ -125,4 +125,4 @@ pub returns : goal.returns
 returns g c =
     let e = c.args.self.now.profile.now in
     let all = all_passed e.rows (c.into_iter-ballot-iterator.ensures.into_iter_gives ∙ c.ballots-ballot-items.ensures.rows) c.loop-ballot.yielded c.loop-ballot.yielded_by c.in-None.ensures.steps.0 in
-    subst (λ rows. AreTriples c.args.self.now.given.now.sums rows c.args.node.now c.args.i c.loop-ballot.triples) all c.loop-ballot.invariant.triples
+    subst (λ rows. AreTriples c.args.self.now.given.now.sums c.args.self.now.shift rows c.args.node.now c.args.i c.loop-ballot.triples) all c.loop-ballot.invariant.triples

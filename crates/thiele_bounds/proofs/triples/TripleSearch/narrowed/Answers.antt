@@ -91,7 +91,7 @@ returns g c weights sums =
     let totals = c.add_ballots.new.totals in
     let raise = 3 * c.from-others.result * c.from-2.result in
     narrowed-members (thiele_value weights e.rows) e.m node.set node.free node.left c.args.self.now.least (λ n. get_or c.sums.result n 0) c.saturating_sub.result c.args.self.now.size c.requires.is_node
-    (λ committee whole reaches. threes-pay weights given.sums given.scale given.unit e.m e.rows node totals c.requires.is_node c.args.self.now.size sums c.add_ballots.ensures.valid.ballots c.add_ballots.ensures.cubics
+    (λ committee whole reaches. threes-pay weights given.sums given.scale given.unit e.m c.args.self.now.shift e.rows node totals c.requires.is_node c.args.self.now.size sums c.add_ballots.ensures.valid.ballots c.add_ballots.ensures.cubics
     c.args.self.now.least c.units.result raise (raised-enough g (goal.at.returns g c).After-from-2) c.units.ensures c.sums.result c.sums.ensures c.saturating_sub.result (due-low g (goal.at.returns g c).After-saturating_sub)
     committee whole reaches)
     c.members_for.result c.members_for.ensures

@@ -35,7 +35,7 @@ loop-i-preserved g c =
     let rest = c.loop-i.i-iterator in
     let first = c.in-Some.i in
     let inv = c.loop-i.invariant in
-    let third : ℕ → ℕ → ℕ → ℕ = all_triples (row_triple self.given.now.sums node.set node.free node.left) self.profile.now.rows in
+    let third : ℕ → ℕ → ℕ → ℕ = all_triples (row_triple self.given.now.sums self.shift node.set node.free node.left) self.profile.now.rows in
     let is : IsSumOfOne (three_at totals third node.left raise) node.free node.left first c.sum.result =
     one-same (three_at totals (λ i. overlap_at c.add_triples.new.triples) node.left raise) (three_at totals third node.left raise) node.free node.left first c.sum.result
     (λ j l here there.

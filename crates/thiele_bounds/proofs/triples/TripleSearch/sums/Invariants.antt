@@ -13,5 +13,5 @@ invariant-loop-i g l = record {
   rises : IsIncreasing 1 most_candidates l.i-iterator;
   among : (x : ℕ) → has_member l.i-iterator x ≡ true → has_member l.node.free x ≡ true;
   made : (x : ℕ) → has_member l.node.free x ≡ true → has_member l.i-iterator x ≡ false
-      → IsSumOfOne (three_at l.totals (all_triples (row_triple l.self.given.now.sums l.node.set l.node.free l.node.left) l.self.profile.now.rows) l.node.left l.raise) l.node.free l.node.left x (get_or l.sums x 0);
+      → IsSumOfOne (three_at l.totals (all_triples (row_triple l.self.given.now.sums l.self.shift l.node.set l.node.free l.node.left) l.self.profile.now.rows) l.node.left l.raise) l.node.free l.node.left x (get_or l.sums x 0);
 }

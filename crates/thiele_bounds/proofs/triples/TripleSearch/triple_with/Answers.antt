@@ -18,9 +18,9 @@ returns-clause-value g c =
     let ballot = c.args.ballot in
     let before : c.len-before.result ≡ hits ballot node.set = c.len-before.ensures.count ∙ ap length c.common.ensures ∙ length-common ballot node.set in
     let approved : c.len-approved.result ≡ hits ballot node.free = c.len-approved.ensures.count ∙ ap length c.common-2.ensures ∙ length-common ballot node.free in
-    let touch : get_or c.args.bends.now.touches c.from.result 0 ≡ touch_of node.left (length node.free) (hits ballot node.free) =
-    ap (λ n. get_or c.args.bends.now.touches n 0) c.from.ensures ∙ c.requires.touches_are c.len-approved.result c.len-approved.ensures.most ∙ ap (touch_of node.left (length node.free)) approved in
-    let at : c.contact_at.result ≡ contact (hits ballot node.set) (touch_of node.left (length node.free) (hits ballot node.free)) =
+    let touch : get_or c.args.bends.now.touches c.from.result 0 ≡ touch_of c.args.self.now.shift node.left (length node.free) (hits ballot node.free) =
+    ap (λ n. get_or c.args.bends.now.touches n 0) c.from.ensures ∙ c.requires.touches_are c.len-approved.result c.len-approved.ensures.most ∙ ap (touch_of c.args.self.now.shift node.left (length node.free)) approved in
+    let at : c.contact_at.result ≡ contact (hits ballot node.set) (touch_of c.args.self.now.shift node.left (length node.free) (hits ballot node.free)) =
     c.contact_at.ensures ∙ ap (λ n. contact n (get_or c.args.bends.now.touches c.from.result 0)) before ∙ ap (contact (hits ballot node.set)) touch in
     read g (goal.at.returns-clause-value g c).After-contact_at ∙ ap (λ n. bend_at sums n / 6) at
 
