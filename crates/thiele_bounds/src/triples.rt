@@ -338,8 +338,9 @@ fn touches_at(node: &Node, shift: u8) -> [u8; PLACES]
     touches
 }
 
-/// The number of further hits at which the cubic of a ballot with `approved` free candidates is exact first: somewhat
-/// above the mean number of hits if the free candidates that join are drawn at random, since good committees have more.
+/// The number of further hits at which the cubic of a ballot with `approved` free candidates is exact first. This
+/// is nine eighths of the mean number of hits if the free candidates that join are drawn at random, since good
+/// committees have more hits, less `shift` eighths.
 fn touch_at(node: &Node, approved: u8, shift: u8) -> u8
     requires some { 1 ≤ length node.now.free }
     requires few { approved ≤ most_candidates }

@@ -30,15 +30,33 @@ pub(crate) const PAIRS_WORK: u64 = 20;
 /// The work of a round that moves multipliers.
 pub(crate) const ROUND_WORK: u64 = 16;
 
-/// The share of all work that may be lost on counts that end no node. With a 64th, 64 random candidates took a sixth
-/// more instructions under `pav`, and noisy parties half as much time again under `geom4`.
-const LOST_SHARE: u64 = 128;
+/// With more different ballots, triples are counted more often.
+const FEW_ROWS: usize = 1_000;
+
+/// How often triples are counted.
+#[derive(Clone, Copy)]
+struct Limits {
+    /// The share of all work that may be lost on counts that end no node.
+    lost_share: u64,
+    /// One node in this number is left alone, to measure the work below it.
+    left_alone: u32,
+}
+
+/// With a 64th, 64 candidates and 500 random voters took a sixth more instructions under `pav`, and noisy parties half
+/// as much time again under `geom4`.
+const FEW: Limits = Limits {
+    lost_share: 128,
+    left_alone: 16,
+};
+
+/// With the limits for few ballots, 40 candidates and 5,000 random voters took twice as long under `pav` and `geom3`.
+const MANY: Limits = Limits {
+    lost_share: 16,
+    left_alone: 64,
+};
 
 /// The number of nodes, for a number of seats left, whose work below has to be known.
 const FEWEST_KNOWN: u64 = 4;
-
-/// One node in this number is left alone, to measure the work below it.
-const LEFT_ALONE: u32 = 16;
 
 /// From this number of different ballots on, the work of counting triples is about the same in visits.
 const MOST_ROWS: u64 = 1 << 20;
@@ -56,6 +74,7 @@ const HOPED: Mean = Mean {
 #[derive(Drop)]
 pub(crate) struct Payoff {
     rows: u64,
+    limits: Limits,
     // All work of the search so far.
     done: Cell<u64>,
     // The work of counts that ended no node, less a part of what the others saved.
@@ -68,6 +87,7 @@ impl Payoff {
     pub(crate) fn new(rows: usize) -> Payoff {
         Payoff {
             rows: rows as u64,
+            limits: if rows > FEW_ROWS { MANY } else { FEW },
             done: Cell::new(0),
             lost: Cell::new(0),
             levels: array::from_fn(|_| Cell::new(Level::NONE)),
@@ -95,7 +115,8 @@ impl Payoff {
     pub(crate) fn is_due(&self, node: &Node) -> bool {
         let done = self.done.get();
         let cost = self.work_at(node);
-        let has_begun = done / BEGINNING >= cost && self.lost.get() <= done / LOST_SHARE;
+        let has_begun = done / BEGINNING >= cost
+            && self.lost.get() <= done / self.limits.lost_share.max(1);
         // Further down, their tables would take too much stack.
         if !has_begun || node.left < FEWEST_SEATS || node.set.len() > MOST_CHOSEN {
             return false;
@@ -103,7 +124,9 @@ impl Payoff {
         let Some(level) = self.levels.get(usize::from(node.left)) else {
             return false;
         };
-        level.get().saves(self.work_below(node.left), cost)
+        let level = level.get();
+        let is_alone = level.nodes % self.limits.left_alone.max(1) == 0;
+        !is_alone && level.saves(self.work_below(node.left), cost)
     }
 
     /// Whether it is time to count triples again at a node with `left` seats left, as candidates have left it.
@@ -215,9 +238,6 @@ impl Level {
     /// Whether triples that cost this much are taken to save three times as much. Below the first nodes there is far
     /// more work than below others, so that triples seem to pay.
     fn saves(&self, below: u64, cost: u64) -> bool {
-        if self.nodes % LEFT_ALONE == 0 {
-            return false;
-        }
         let saved = self.success.value.saturating_mul(below) / PARTS;
         saved / 3 >= cost
     }
