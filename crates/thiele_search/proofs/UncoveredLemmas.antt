@@ -1,6 +1,6 @@
 -- Voters without a hit, and the branches of a lean search.
 use Rattle.std.proofs.lemmas.Grind.{common_steps}
-use Rattle.std.proofs.Common.{◌≡◌, ℕ, zero, suc, ◌+◌, ◌-◌, ◌*◌, ◌<◌, ◌≤◌, ◌==◌, ◌&&◌, ◌||◌, ◌∙◌, ◌^◌, Bool, true, false, not, cond, min, filter, replicate, List, Option, [], ◌∷◌, ◌++◌, refl, sym, ap, arith, inl, inr, length, sum_by, get_or, get_or-set_other, set, bit_and, take, slice_get, Some}
+use Rattle.std.proofs.Common.{◌≡◌, ℕ, zero, suc, ◌+◌, ◌-◌, ◌*◌, ◌<◌, ◌≤◌, ◌==◌, ◌||◌, ◌∙◌, ◌^◌, Bool, true, false, cond, min, filter, replicate, List, Option, [], ◌∷◌, ◌++◌, refl, sym, ap, arith, inl, inr, length, sum_by, get_or, get_or-set_other, set, bit_and, take, slice_get, Some}
 use Rattle.std.specs.Prelude.{IsTrue, MatchOption}
 use Rattle.std.specs.Int.{bit_at}
 use Rattle.std.specs.Int.RustNames.{count_ones}
@@ -11,13 +11,13 @@ use Rattle.std.proofs.lemmas.List.Sums.{length-filter, sum_by-cons}
 use Rattle.std.proofs.lemmas.Option.{get_or_from_slice_get, slice_get_within}
 use Rattle.std.proofs.lemmas.Nat.Bits.{bit_at_and, bit_at_ones}
 use Rattle.ballot_base.specs.Ballots.{Row, Election, IsElection, hits}
-use Rattle.ballot_base.specs.CandSet.{common_members, has_member, other_members, with_member, without_member}
+use Rattle.ballot_base.specs.CandSet.{common_members, has_member, with_member, without_member}
 use Rattle.ballot_base.specs.Increments.{increments}
 use Rattle.ballot_base.specs.Limits.{most_candidates, most_members}
 use Rattle.ballot_base.specs.Lists.{IsIncreasing}
 use Rattle.ballot_base.specs.Worths.{AreChosen, AreTooLow, AreWanted}
 use Rattle.ballot_base.specs.declared.increments.ThieleRule.TheVariants.{Cc}
-use Rattle.ballot_base.proofs.Increasing.{IsIncreasing-lower, has_member-filter, has_member-with_member, has_member_tail}
+use Rattle.ballot_base.proofs.Increasing.{IsIncreasing-lower, has_member-with_member, has_member_tail}
 use Rattle.ballot_base.proofs.Sums.{sum-member, sum-threshold}
 use Rattle.ballot_base.proofs.WeightLemmas.{increments-past, increments-within}
 use Rattle.row_multipliers.specs.Completions.{IsCompletion, IsNode, IsOutOfReach}
@@ -316,9 +316,6 @@ branch-child e set free branch child next is here set_is free_is voters = record
 pub branch-gain : (e : Election) (set free : List ℕ) (branch : Branch) (k n : ℕ) → IsBranch e set free branch → length (uncovered_voters e.rows set free) ≤ table_blocks * block_voters
     → 1 ≤ k → k ≤ most_members → has_member branch.free n ≡ true → newly (uncovered_voters e.rows set free) branch.set n ≡ gain (increments Cc k) e.rows branch.set n
 branch-gain e set free branch k n is few some size here = newly-gain k e.rows set free branch.set n some size few is.whole (is.among n here)
-
-pub minus-not : (all kept : List ℕ) (n : ℕ) → has_member kept n ≡ true → has_member (other_members all kept) n ≡ false
-minus-not all kept n is = has_member-filter (λ x. not (has_member kept x)) all n ∙ ap (λ b. not b && has_member all n) is
 
 -- a node that is refuted is out of reach
 pub refuted-out : (tally : Thiele) (e : Election) (set free node_set node_free : List ℕ) (left least value due : ℕ) → e ≡ tally.election → set ≡ node_set → free ≡ node_free → tally.rule ≡ Cc

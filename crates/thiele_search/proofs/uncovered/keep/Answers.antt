@@ -1,5 +1,5 @@
 use Rattle.std.proofs.lemmas.Grind.{common_steps}
-use Rattle.std.proofs.Common.{◌≡◌, ℕ, ◌∙◌, ◌==◌, ◌∷◌, Bool, false, not, ap, arith, get_or, get_or-set_other, refl, subst, sym, true}
+use Rattle.std.proofs.Common.{◌≡◌, ℕ, ◌∙◌, ◌==◌, ◌∷◌, Bool, false, not, ap, arith, get_or, get_or-set_other, subst, sym, true}
 use Rattle.std.specs.Prelude.{nat_le}
 use Rattle.std.proofs.lemmas.Bool.{le-leb, lt-leb}
 use Rattle.ballot_base.specs.CandSet.{has_member}

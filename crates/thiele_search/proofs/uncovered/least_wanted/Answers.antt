@@ -1,4 +1,4 @@
-use Rattle.std.proofs.Common.{ℕ, ◌*◌, ◌≤◌, ap, arith, get_or}
+use Rattle.std.proofs.Common.{ℕ, ◌≤◌, arith, get_or}
 use Rattle.std.specs.Prelude.{nat_le}
 use Rattle.std.proofs.lemmas.Bool.{le-leb}
 use Rattle.ballot_base.proofs.Increasing.{IsIncreasing-filter}
