@@ -21,8 +21,8 @@ use std::marker::Model;
 /// voters and candidates in a square with outliers took almost three times as long.
 pub const MOST_MOVED: u64 = 1 << 40;
 
-/// The pace of a step that closes the whole gap. With two fifths of it at nodes, hierarchies, parties and slates took up
-/// to twice as long.
+/// The pace of a step that closes the whole gap. With two fifths of it at nodes, hierarchies, parties and slates took
+/// up to twice as long.
 const WHOLE: u64 = 1024;
 
 /// The direction that one hit makes.

@@ -313,7 +313,8 @@ fn least_wanted(gains: &Gains, branch: &Branch, threshold: &mut u16) -> Option<u
     Some(least as u16)
 }
 
-/// The candidates that are kept, and one of them with the highest gain, or 0 if none gains anything. Any answer works.
+/// The candidates that are kept. `best` is one of them with the highest gain, or 0 if none gains anything: any other
+/// one works too.
 #[derive(Clone, Copy)]
 struct Kept {
     free: CandSet,
