@@ -12,7 +12,8 @@ use crate::rows::WeighedRows;
 use crate::walk::Walk;
 use crate::weights::Shares;
 use ballot_base::{CandSet, Clones, Profile};
-use row_multipliers::{Moves, Node};
+use row_multipliers::payoff::Limits;
+use row_multipliers::{Node, Payoff};
 use std::alloc::{AllocError, Allocator, Global};
 use std::cell::Cell;
 use std::marker::Model;
@@ -29,7 +30,7 @@ pub struct MinimaxSearch<'a, A: Allocator + Copy = Global> {
     pub(crate) shares: Shares,
     pub(crate) rows: WeighedRows<A>,
     // Where it pays to move weights, over all questions so far.
-    pub(crate) moves: Moves,
+    pub(crate) moves: Payoff,
     // The committee that was found last.
     found: Cell<CandSet>,
     pub(crate) lists: Lists,
@@ -45,7 +46,17 @@ impl<'a, A: Allocator + Copy> Model for MinimaxSearch<'a, A> {
 
 /// The work of a round that moves weights, in visits to a set. A round goes over all rows twice, and a visit often ends
 /// at one of the first. With 1, 20 random candidates and 10 seats took 37 % more instructions. Any number works.
-const ROUND: u64 = 2;
+pub(crate) const ROUND: u64 = 2;
+
+/// About how many rounds move the weights of a node.
+const FIRST_ROUNDS: u64 = 6;
+
+/// Most nodes end by moved weights, so as much work may be lost on them as there is. With a quarter of it, 26 elections
+/// took an eighth more instructions. Any numbers work.
+const MOVES: Limits = Limits {
+    lost_share: 1,
+    margin: 1,
+};
 
 /// The number of sets of a short search. If a search lasts longer, a walk often finds sooner what is looked for. With
 /// 10,000, one of five elections with 64 random candidates and 10 seats took 1.9 times as long. Any number works.
@@ -62,7 +73,7 @@ impl<'a, A: Allocator + Copy + Drop> MinimaxSearch<'a, A> {
             clones: Clones::of(profile),
             shares: Shares::equal(),
             rows: WeighedRows::of(alloc, profile.rows())?,
-            moves: Moves::new(ROUND),
+            moves: Payoff::new(MOVES, FIRST_ROUNDS * ROUND),
             found: Cell::new(CandSet::empty()),
             lists: Lists::new(),
         })

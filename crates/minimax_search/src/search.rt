@@ -34,12 +34,16 @@ const FEWEST_CHOICES: u8 = 3;
 const FEWEST_TO_SORT: u8 = 3;
 
 impl<A: Allocator + Copy> Narrowing for MinimaxSearch<'_, A> {
-    // A whole committee is valued when it is reached.
+    // No value is kept: a whole committee is valued when it is reached.
     ghost is_valued = { λ election set value. ⊤ };
 
     ghost is_plan = { λ election set left plan. IsNearPlan election set left plan };
 
-    fn whole_value(&self, node: &Node) -> u128 {
+    fn root_value(&self, _node: &Node) -> u128 {
+        0
+    }
+
+    fn whole_value(&self, node: &Node, _value: u128) -> u128 {
         MinimaxTally::new(self.profile).value(node.set)
     }
 
@@ -47,7 +51,7 @@ impl<A: Allocator + Copy> Narrowing for MinimaxSearch<'_, A> {
         self.lists.is_over()
     }
 
-    fn plan(&self, node: &Node, least: u128) -> Option<Plan> {
+    fn plan(&self, node: &Node, value: u128, least: u128) -> Option<Plan> {
         self.lists.enter(least);
         let m = self.m();
         if least > u128::from(m) {
@@ -65,6 +69,7 @@ impl<A: Allocator + Copy> Narrowing for MinimaxSearch<'_, A> {
         let here = Node { free, ..*node };
         let needs = search.constraint(&here);
         Some(Plan {
+            value,
             eligible: eligible(&needs, &here)?,
             choices,
             worths: needs.worths,
@@ -86,10 +91,13 @@ impl<A: Allocator + Copy> Narrowing for MinimaxSearch<'_, A> {
     fn child(&self, _plan: &Plan, node: &Node, next: u8) -> Node {
         Node {
             set: node.set.with(next),
-            value: 0,
             free: node.free.without(next),
             left: node.left - 1,
         }
+    }
+
+    fn child_value(&self, _plan: &Plan, _node: &Node, _next: u8) -> u128 {
+        0
     }
 }
 
@@ -186,7 +194,7 @@ impl<A: Allocator + Copy> MinimaxSearch<'_, A> {
         if left < FEWEST_SEATS || choices.len() < FEWEST_CHOICES {
             return Weighing::Nothing;
         }
-        if self.moves.are_due(left) {
+        if self.moves.is_due(left) {
             Weighing::Moved
         } else {
             Weighing::ByShare(&self.shares)

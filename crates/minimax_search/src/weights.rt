@@ -14,11 +14,12 @@ ghost use Rattle.row_multipliers.specs.Steps.Narrowed.{Narrows};
 ghost use Rattle.minimax_search.specs.Steps.Search.{NarrowsNear, share_parts};
 ghost use Rattle.tie_walk.specs.Values.{closeness};
 
+use crate::minimax::ROUND;
 use crate::needs::still_needed;
 use crate::rows::WeighedRows;
 use ballot_base::{CandSet, PLACES, Profile, Worths};
 use row_multipliers::multipliers::{Constraint, Moved};
-use row_multipliers::{Moves, Node};
+use row_multipliers::{Node, Payoff};
 use std::alloc::Allocator;
 
 /// The maximum number of rounds at a node. With 10 and with 20, some elections took three times as long.
@@ -154,18 +155,17 @@ pub(crate) struct NeedSearch<'a, A: Allocator + Copy> {
 impl<A: Allocator + Copy> NeedSearch<'_, A> {
     /// Moves the weights, if they are moved ones. Returns the free candidates that can still join, or `None` only if no
     /// completion of the set is near each ballot.
-    pub(crate) fn moved(&self, node: &Node, moves: &Moves) -> Option<CandSet>
+    pub(crate) fn moved(&self, node: &Node, moves: &Payoff) -> Option<CandSet>
         requires is_node { IsNode self.now.profile.now.m node.now.set node.now.free }
         ensures { NarrowsNear self.now.profile.now self.now.most node.now result }
     {
         if !matches!(&self.weighing, Weighing::Moved) {
-            moves.work(0);
+            moves.work(1);
             return Some(node.free);
         }
         self.rows.raise(node.left);
         let moved = self.narrowed(node);
-        moves.note(node, &moved);
-        moved.free
+        moves.note(node, ROUND * u64::from(moved.rounds), moved.free)
     }
 
     /// Moves the weights until no completion of the node is near each ballot, or the gap closes too slowly.

@@ -2,6 +2,7 @@
 use Rattle.std.proofs.Common.{◌≡◌, ◌+◌, ◌*◌, ◌/◌, zero, suc, [], ◌∷◌, refl, length, lit≤, arith}
 use Rattle.thiele_bounds.specs.Pairs.{IsMajorant, all_constants, all_overlap, all_worth, pair_sum, row_sum, worth_beside}
 use Rattle.thiele_bounds.specs.Prices.{IsLinearMajorant}
+use Rattle.thiele_bounds.specs.Steps.Places.{tetrahedron, triple_place, word_at, word_of}
 use Rattle.thiele_bounds.specs.Triples.{IsCubicMajorant, all_triples, sum_of_one, sum_of_pairs, sum_of_triples, sum_of_two, threshold_sum, worth_of_three}
 
 -- ---- prices: under proportional approval voting, in sixths, a voter gives 6 for a hit, 3 more for a second and 2 more
@@ -101,3 +102,20 @@ sum-two = refl
 -- two others join 1: twice the threshold 3, and 1 and 2 that 4 and 5 exceed it
 sum-one : sum_of_one (λ i j. j) (1 ∷ 2 ∷ 3 ∷ 4 ∷ 5 ∷ []) 3 (λ i. 3) 1 ≡ 9
 sum-one = refl
+
+-- ---- places of three candidates in a table
+
+-- 000; 100, 110 and 111; 200, 210, 211, 220, 221 and 222
+planes-three : tetrahedron 3 ≡ 10
+planes-three = refl
+
+-- 221 comes after the first four, and after 200, 210, 211 and 220
+place-last : triple_place 2 1 2 ≡ 8
+place-last = refl
+
+word-any : word_of (10 ∷ 20 ∷ 30 ∷ 40 ∷ 50 ∷ 60 ∷ 70 ∷ 80 ∷ 90 ∷ []) 1 2 2 ≡ 90
+word-any = refl
+
+-- 210
+word-falling : word_at (10 ∷ 20 ∷ 30 ∷ 40 ∷ 50 ∷ 60 ∷ 70 ∷ 80 ∷ 90 ∷ []) 2 1 0 ≡ 60
+word-falling = refl

@@ -6,6 +6,8 @@ pub mod OverlapLemmas
 pub mod PairLemmas
 pub mod PairNodes
 pub mod PairTotals
+pub mod PlaceLemmas
 pub mod SumLemmas
 pub mod TripleLemmas
 pub mod TripleSums
+pub mod TurnLemmas

@@ -1,6 +1,7 @@
 pub mod Cubics
 pub mod Majorants
 pub mod Paired
+pub mod Places
 pub mod Priced
 pub mod Rows
 pub mod Threes

@@ -10,9 +10,11 @@ pub mod majorant;
 pub mod pairs;
 pub mod prices;
 mod rough;
+mod triple_table;
 pub mod triples;
 
 pub use majorant::{HitSums, Shape};
 pub use pairs::PairSearch;
 pub use prices::{AGAIN, NODE, PriceSearch, Priced};
+pub use triple_table::TripleMemory;
 pub use triples::TripleSearch;

@@ -193,7 +193,7 @@ impl Rows<'_> {
     }
 }
 
-fn row_start(candidate: u8) -> usize
+pub(crate) fn row_start(candidate: u8) -> usize
     ensures { result ≡ triangle candidate }
 {
     let candidate = usize::from(candidate);

@@ -189,7 +189,6 @@ impl<A: Allocator + Copy> Priced<A> {
         let candidates = CandSet::all(values.m());
         let all = Node {
             set: CandSet::empty(),
-            value: 0,
             free: candidates,
             left: k,
         };

@@ -6,21 +6,23 @@
 //! (`laws::triple_sums`). With many voters the bound is far lower than that of `pairs`, whose quadratic functions lose
 //! more for each voter. It takes much longer.
 ghost use Rattle.std.specs.Prelude.{◌≡◌, ℕ, ◌+◌, ◌-◌, ◌*◌, ◌/◌, ◌^◌, ◌<◌, ◌≤◌, true, List, length, min, slice_index, if◌then◌else◌};
-ghost use Rattle.ballot_base.specs.CandSet.{has_member, without_member};
+ghost use Rattle.ballot_base.specs.CandSet.{has_member};
 ghost use Rattle.ballot_base.specs.Ballots.{IsElection, hits, voter_count};
 ghost use Rattle.ballot_base.specs.Limits.{most_candidates, worth_limit};
 ghost use Rattle.ballot_base.specs.Lists.{IsIncreasing};
 ghost use Rattle.row_multipliers.specs.Completions.{IsNode};
-ghost use Rattle.thiele_bounds.specs.Triples.{all_triples, sum_of_two, threshold_sum};
+ghost use Rattle.thiele_bounds.specs.Triples.{threshold_sum};
 ghost use Rattle.thiele_bounds.specs.Steps.Paired.{AreNothing, AreSmallSums, most_sum, overlap_at};
-ghost use Rattle.thiele_bounds.specs.Steps.Cubics.{IsSmallCubic, bend_at, contact, fall_at, highest, increment_at, lack, overlap_of, row_triple, touch_of, triple_at, worth_at};
-ghost use Rattle.thiele_bounds.specs.Steps.Threes.{AreBends, AreCubics, AreRaised, AreThree, AreTriples, IsPlane, IsSumOfOne, plane_three, three_at};
+ghost use Rattle.thiele_bounds.specs.Steps.Cubics.{IsSmallCubic, bend_at, contact, fall_at, highest, increment_at, lack, overlap_of, touch_of, triple_at, worth_at};
+ghost use Rattle.thiele_bounds.specs.Steps.Threes.{AreBends, AreCubics, AreThree, AreThrees, AreTriples, AreTwos, IsSumOfOne, IsSumOfTwo, three_of};
+ghost use Rattle.thiele_bounds.specs.Steps.Places.{HasRoom};
 ghost use Rattle.thiele_bounds.specs.Steps.Totals.{AreSmall, NarrowsUnder};
 ghost use Rattle.thiele_bounds.specs.Steps.Units.{most_overlap};
 
 use crate::majorant::{HitSums, Majorant};
-use crate::pairs::{TABLE_PLACES, Table, Totals, add_pairs, place};
+use crate::pairs::{TABLE_PLACES, Table, Totals, place};
 use crate::rough::Rough;
+use crate::triple_table::{TripleMemory, add_threes, place_of_three};
 use ballot_base::{CandSet, MOST_CANDIDATES, PLACES, Profile, Worths};
 use row_multipliers::Node;
 use std::alloc::Allocator;
@@ -36,6 +38,8 @@ pub struct TripleSearch<'a, A: Allocator + Copy> {
     pub least: u128,
     /// By how many eighths of a hit cubics are exact sooner than at nine eighths of the mean number of hits.
     pub shift: u8,
+    /// Memory for the triples of the profile's candidates. If there is none, all free candidates stay.
+    pub memory: &'a TripleMemory<A>,
     ghost size: { profile.now.m ≤ most_candidates },
     ghost fits: { voter_count profile.now.rows * most_sum given.now.sums ≤ most_overlap },
 }
@@ -51,6 +55,25 @@ impl<A: Allocator + Copy> TripleSearch<'_, A> {
         if node.free.len() < node.left {
             return None;
         }
+        let Some(mut table) = self.memory.table(self.profile.m()) else {
+            return Some(node.free);
+        };
+        self.add_triples(&mut table, node);
+        let members = self.members_by(&table, node);
+        self.memory.keep(table);
+        members
+    }
+
+    /// Like `narrowed`, by the triples of all voters.
+    fn members_by(&self, triples: &[u64], node: &Node) -> Option<CandSet>
+        requires is_node { IsNode self.now.profile.now.m node.now.set node.now.free }
+        requires several { 3 ≤ node.now.left }
+        requires some { 1 ≤ length node.now.free }
+        requires room { HasRoom node.now.free triples.now }
+        requires triples { AreTriples self.now.given.now.sums self.now.shift self.now.profile.now.rows node.now
+            triples.now }
+        ensures { NarrowsUnder self.now.given.now self.now.profile.now node.now self.now.least result }
+    {
         let mut totals = Totals {
             constant: 0,
             worths: Worths::none(),
@@ -65,7 +88,13 @@ impl<A: Allocator + Copy> TripleSearch<'_, A> {
             .units(self.least)
             .saturating_mul(factor)
             .saturating_add(u128::from(node.left) * others * u128::from(node.left - 2) * raise);
-        self.sums(node, &totals, raise).members_for(
+        let threes = Threes {
+            node,
+            totals: &totals,
+            triples,
+            raise,
+        };
+        threes.sums().members_for(
             node.free,
             node.left,
             due.saturating_sub(factor * totals.constant),
@@ -100,49 +129,23 @@ impl<A: Allocator + Copy> TripleSearch<'_, A> {
         }
     }
 
-    /// For each free candidate, the row sum of the row sums of the pairs with it.
-    fn sums(&self, node: &Node, totals: &Totals, raise: u128) -> Worths
+    /// Adds up the triples of all voters, for each three free candidates that they approve.
+    fn add_triples(&self, triples: &mut [u64], node: &Node)
         requires is_node { IsNode self.now.profile.now.m node.now.set node.now.free }
         requires some { 1 ≤ length node.now.free }
-        requires raised { AreRaised totals.now node.now.left raise }
-        ensures { (i : ℕ) → has_member node.now.free i ≡ true → IsSumOfOne (three_at totals.now
-            (all_triples (row_triple self.now.given.now.sums self.now.shift node.now.set node.now.free node.now.left)
-            self.now.profile.now.rows) node.now.left raise) node.now.free node.now.left i (slice_index result i) }
+        requires room { HasRoom node.now.free triples.old }
+        requires nothing { (n : ℕ) → slice_index triples.old n ≡ 0 }
+        ensures kept { length triples.new ≡ length triples.old }
+        ensures triples { AreTriples self.now.given.now.sums self.now.shift self.now.profile.now.rows node.now
+            triples.new }
     {
         let bends = Bends {
             touches: touches_at(node, self.shift),
             triples: triples_of(&self.given.sums),
         };
-        let mut sums = Worths::none();
-        for i in node.free.members() {
-            let mut triples = [0; TABLE_PLACES];
-            self.add_triples(&mut triples, node, i, &bends);
-            let plane = Plane {
-                node,
-                totals,
-                triples: &triples,
-                raise,
-                i,
-            };
-            sums.set(i, plane.sum());
-        }
-        sums
-    }
-
-    /// Adds up the triples of all voters who approve the candidate `i`, for each pair of the other free candidates.
-    fn add_triples(&self, triples: &mut Table, node: &Node, i: u8, bends: &Bends)
-        requires is_node { IsNode self.now.profile.now.m node.now.set node.now.free }
-        requires bends { AreBends self.now.given.now.sums self.now.shift node.now bends.now }
-        requires some { 1 ≤ length node.now.free }
-        requires nothing { (j l : ℕ) → overlap_at triples.old j l ≡ 0 }
-        ensures { AreTriples self.now.given.now.sums self.now.shift self.now.profile.now.rows node.now i triples.new }
-    {
-        let others = node.free.without(i);
         for (ballot, voters) in self.profile.ballots() {
-            if ballot.has(i) {
-                let triple = self.triple_with(node, ballot, bends);
-                add_some_pairs(triples, ballot.common(others), voters * triple);
-            }
+            let triple = self.triple_with(node, ballot, &bends);
+            add_threes(triples, ballot.common(node.free), voters * triple);
         }
     }
 
@@ -169,65 +172,102 @@ struct Bends {
     triples: [u64; PLACES],
 }
 
-/// The triples that a candidate `i` belongs to.
+/// What worths of three are made of.
 #[derive(Drop)]
-struct Plane<'a> {
+struct Threes<'a> {
     node: &'a Node,
     totals: &'a Totals,
-    triples: &'a Table,
+    triples: &'a [u64],
     // Worths of three are raised by this, so that none is below 0.
     raise: u128,
-    i: u8,
 }
 
-impl Plane<'_> {
+impl Threes<'_> {
+    /// For each free candidate, the row sum of the row sums of the pairs with it.
+    fn sums(&self) -> Worths
+        requires { AreThrees self.now }
+        ensures { (i : ℕ) → has_member self.now.node.now.free i ≡ true → IsSumOfOne (three_of self.now)
+            self.now.node.now.free self.now.node.now.left i (slice_index result i) }
+    {
+        let mut twos = [0; TABLE_PLACES];
+        self.fill(&mut twos);
+        let mut sums = Worths::none();
+        for i in self.node.free.members() {
+            sums.set(i, self.sum_of_one(&twos, i));
+        }
+        sums
+    }
+
     /// A bound on the sums of two that the candidate and others make.
-    fn sum(&self) -> u128
-        requires { IsPlane self.now }
-        ensures sum { IsSumOfOne (plane_three self.now) self.now.node.now.free self.now.node.now.left self.now.i
-            result }
+    fn sum_of_one(&self, twos: &Table, i: u8) -> u128
+        requires threes { AreThrees self.now }
+        requires twos { AreTwos self.now twos.now }
+        requires member { has_member self.now.node.now.free i ≡ true }
+        ensures sum { IsSumOfOne (three_of self.now) self.now.node.now.free self.now.node.now.left i result }
         ensures small { result < worth_limit }
     {
-        let others = self.node.free.without(self.i);
+        let others = self.node.free.without(i);
         let mut sums = Worths::none();
-        let mut rise = 0;
         for j in others.members() {
-            sums.set(j, self.sum_of_two(j, &mut rise));
+            sums.set(j, ROUGHLY * u128::from(twos[place(i, j)]));
         }
         bound_of(&sums, others, self.node.left - 1)
     }
 
-    /// A bound on the worths of three that the candidate, `j` and others make. `rise` is where a threshold is looked
-    /// for: about there where the last one was.
-    fn sum_of_two(&self, j: u8, rise: &mut u64) -> u128
-        requires plane { IsPlane self.now }
-        requires member { has_member (without_member self.now.node.now.free self.now.i) j ≡ true }
-        ensures sum { (third : ℕ) × (sum_of_two (plane_three self.now) self.now.node.now.free
-            self.now.node.now.left (λ i j. third) self.now.i j ≤ result) }
-        ensures small { result ≤ 2 ^ 100 }
+    /// Makes the sums of all two free candidates. The sum of two is the same in either order.
+    fn fill(&self, twos: &mut Table)
+        requires { AreThrees self.now }
+        ensures { AreTwos self.now twos.new }
     {
-        let others = self.node.free.without(self.i).without(j);
-        let bound = self.worths_with(j).bound(others, self.node.left - 2, rise);
-        ROUGHLY * u128::from(bound)
+        for i in self.node.free.members() {
+            self.fill_row(twos, i);
+        }
     }
 
-    /// The worth of three with the candidate and `j`, for each of the others, rounded up.
-    fn worths_with(&self, j: u8) -> Rough
-        requires plane { IsPlane self.now }
-        requires member { has_member (without_member self.now.node.now.free self.now.i) j ≡ true }
-        ensures { AreThree self.now j result }
+    /// Makes the sums of a candidate and each free one before it.
+    fn fill_row(&self, twos: &mut Table, i: u8)
+        requires threes { AreThrees self.now }
+        requires member { has_member self.now.node.now.free i ≡ true }
+        ensures made { (j : ℕ) → has_member self.now.node.now.free j ≡ true → j < i
+            → IsSumOfTwo self.now i j (overlap_at twos.new i j) }
+        ensures others { (a b : ℕ) → b < a → (a ≡ i → ⊥) → overlap_at twos.new a b ≡ overlap_at twos.old a b }
+    {
+        // A threshold is looked for about there where the last one was.
+        let mut rise = 0;
+        for j in self.node.free.upto(i - 1).members() {
+            twos[place(i, j)] = self.sum_of_two(i, j, &mut rise);
+        }
+    }
+
+    /// A bound on the worths of three that two candidates and others make, rounded up. `rise` is where a threshold is
+    /// looked for, and at last where it was.
+    fn sum_of_two(&self, i: u8, j: u8, rise: &mut u64) -> u64
+        requires threes { AreThrees self.now }
+        requires first { has_member self.now.node.now.free i ≡ true }
+        requires second { has_member self.now.node.now.free j ≡ true }
+        ensures { IsSumOfTwo self.now i j result }
+    {
+        let others = self.node.free.without(i).without(j);
+        self.worths_with(i, j)
+            .bound(others, self.node.left - 2, rise)
+    }
+
+    /// The worth of three with these two, for each of the others, rounded up.
+    fn worths_with(&self, i: u8, j: u8) -> Rough
+        requires threes { AreThrees self.now }
+        requires first { has_member self.now.node.now.free i ≡ true }
+        requires second { has_member self.now.node.now.free j ≡ true }
+        ensures { AreThree self.now i j result }
     {
         let others = u64::from(self.node.left - 1);
         let factor = 3 * others * u64::from(self.node.left - 2);
         let worths = &self.totals.worths;
         let overlaps = &self.totals.overlaps;
         let mut three = Rough::none();
-        for l in self.node.free.without(self.i).without(j).members() {
-            let overlap = overlaps[place(self.i, j)]
-                + overlaps[place(self.i, l)]
-                + overlaps[place(j, l)];
-            let triple = self.triples[place(j, l)];
-            let worth = worths.of(self.i) + worths.of(j) + worths.of(l);
+        for l in self.node.free.without(i).without(j).members() {
+            let overlap = overlaps[place(i, j)] + overlaps[place(i, l)] + overlaps[place(j, l)];
+            let triple = self.triples[place_of_three(i, j, l)];
+            let worth = worths.of(i) + worths.of(j) + worths.of(l);
             let worth = worth + u128::from(factor) * u128::from(triple) + self.raise
                 - u128::from(others) * u128::from(overlap);
             three.set(l, (worth / ROUGHLY) as u64 + 1);
@@ -245,17 +285,6 @@ fn bound_of(worths: &Worths, candidates: CandSet, count: u8) -> u128
 {
     let threshold = worths.nth_greatest(candidates, count);
     u128::from(count) * threshold + worths.excess(candidates, threshold)
-}
-
-/// Like `add_pairs`, but an amount of 0 takes no time.
-fn add_some_pairs(table: &mut Table, members: CandSet, amount: u64)
-    requires fits { (i j : ℕ) → j ≤ most_candidates → overlap_at table.old i j + amount < 2 ^ 64 }
-    ensures { (i j : ℕ) → j ≤ most_candidates → overlap_at table.new i j ≡ overlap_at table.old i j
-        + (if has_member members i then (if has_member members j then amount else 0) else 0) }
-{
-    if amount > 0 {
-        add_pairs(table, members, amount);
-    }
 }
 
 /// What a voter gives for h further hits is bounded by a constant and `worth * h - overlap * h * (h - 1)

@@ -14,11 +14,11 @@
 
 mod colours;
 mod columns;
+mod costs;
 mod dominance;
 mod good;
 pub mod laws;
 mod matching;
-mod payoff;
 mod permutations;
 mod search;
 mod symmetry;

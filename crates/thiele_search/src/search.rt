@@ -8,22 +8,22 @@
 //! counts a voter who approves two members less than twice. Then come prices of the node itself, whose multipliers are
 //! moved (`row_multipliers::multipliers`). Pairs shorten elections whose ballots were drawn independently, and prices
 //! those whose ballots have structure. A search begins without both, since a short one ends sooner without them. Each
-//! is left out again if it does not pay (module `trials`, `row_multipliers::moves`).
-ghost use Rattle.std.specs.Prelude.{◌≡◌, ℕ, ◌≤◌, true, false, IsTrue, slice_index};
+//! is left out again if it does not pay (module `trials`, `row_multipliers::payoff`).
+ghost use Rattle.std.specs.Prelude.{◌≡◌, ℕ, ◌≤◌, true, false, slice_index};
 ghost use Rattle.ballot_base.specs.CandSet.{has_member};
-ghost use Rattle.ballot_base.specs.Lists.{IsIncreasing};
 ghost use Rattle.ballot_base.specs.Increments.{increments};
 ghost use Rattle.ballot_base.specs.declared.increments.ThieleRule.TheVariants.{Cc};
 ghost use Rattle.tie_walk.specs.Ceilings.{gain_at};
 ghost use Rattle.tie_walk.specs.Sequences.{gain};
 ghost use Rattle.row_multipliers.specs.Steps.Narrowed.{Narrows};
-ghost use Rattle.thiele_search.specs.Steps.Aided.{IsAided, IsValued};
+ghost use Rattle.thiele_search.specs.Steps.Aided.{IsAided, IsGainPlan, IsValued};
 ghost use Rattle.row_multipliers.specs.Completions.{IsNode, IsOutOfReach};
 ghost use Rattle.tie_walk.specs.Values.{tally_value};
 
 use crate::columns::Columns;
+use crate::costs;
 use crate::dominance::Dominance;
-use crate::payoff::{FEWEST_SEATS, PAIRS_WORK, ROUND_WORK};
+use crate::symmetry::MOST_CHOSEN;
 use crate::thiele::ThieleSearch;
 use crate::trials::{FEW_SEATS, Uses};
 use crate::uncovered::{FEWEST_LEFT, MOST_LEFT, Uncovered};
@@ -31,15 +31,24 @@ use ballot_base::{CandSet, Clones, ThieleRule, Worths};
 use row_multipliers::Node;
 use row_multipliers::multipliers::{self, Effort};
 use std::alloc::Allocator;
-use thiele_bounds::{AGAIN, HitSums, NODE, PairSearch, PriceSearch, Priced, Shape, TripleSearch};
+use thiele_bounds::{
+    AGAIN, HitSums, NODE, PairSearch, PriceSearch, Priced, Shape, TripleMemory, TripleSearch,
+};
 use tie_search::descent::{Narrowing, Plan};
 use tie_walk::Tally;
+
+/// With fewer seats left there are no triples.
+const FEWEST_SEATS: u8 = 3;
+
+/// The maximum size of a set at which pairs are counted in a search. Their tables take 28 KB of stack, and each member
+/// of the set has taken some already.
+const MOST_WITH_PAIRS: u8 = 30;
 
 /// With more voters, good committees have about as many hits as random ones.
 const MANY_VOTERS: u64 = 1_000;
 
 /// The aids of a search: clones; dominance, if each hit adds something; columns and prices, if they are worth making;
-/// what hits give, for majorants; and which tests helped so far.
+/// what hits give, for majorants; memory for a table of triples; and which tests helped so far.
 #[derive(Drop)]
 pub(crate) struct Aids<A: Allocator> {
     pub(crate) clones: Clones,
@@ -47,20 +56,21 @@ pub(crate) struct Aids<A: Allocator> {
     pub(crate) columns: Option<Columns<A>>,
     pub(crate) priced: Option<Priced<A>>,
     pub(crate) sums: Option<HitSums>,
+    pub(crate) table: TripleMemory<A>,
     pub(crate) uses: Uses,
 }
 
 impl<'a, A: Allocator + Copy> ThieleSearch<'a, A> {
     /// The free candidates of a node that can still join, by the gains of its set or of a set with fewer members.
     /// Returns `None` only if no completion of the set reaches the value.
-    fn promising(&self, gains: &Worths, node: &Node, least: u128) -> Option<CandSet>
+    fn promising(&self, gains: &Worths, node: &Node, value: u128, least: u128) -> Option<CandSet>
         requires is_node { IsNode self.now.election.m node.now.set node.now.free }
-        requires valued { IsValued self.now node.now.set node.now.value }
+        requires valued { IsValued self.now node.now.set value }
         requires gains { (n : ℕ) → has_member node.now.free n ≡ true
             → gain_at (tally_value self.now) node.now.set n ≤ slice_index gains.now n }
         ensures { Narrows (tally_value self.now) self.now.election.m node.now least result }
     {
-        gains.members_for(node.free, node.left, least.saturating_sub(node.value))
+        gains.members_for(node.free, node.left, least.saturating_sub(value))
     }
 
     /// The free candidates of a node that can still join. Returns `None` only if no completion of its set reaches the
@@ -81,7 +91,7 @@ impl<'a, A: Allocator + Copy> ThieleSearch<'a, A> {
         ensures { Narrows (tally_value self.now) self.now.election.m node.now least result }
     {
         match &self.aids.priced {
-            Some(priced) if self.moves.are_due(node.left) => {
+            Some(priced) if self.moves.is_due(node.left) => {
                 let search = PriceSearch {
                     tally: &self.values,
                     given: &priced.given,
@@ -89,9 +99,12 @@ impl<'a, A: Allocator + Copy> ThieleSearch<'a, A> {
                     least,
                 };
                 let moved = multipliers::narrowed(&search, &priced.multipliers, node, effort);
-                self.moves.note(node, &moved);
-                self.triples.work(ROUND_WORK * u64::from(moved.rounds));
-                moved.free
+                let rows = self.values.profile().rows();
+                let work = costs::round(rows, self.values.rule()).saturating_mul(u64::from(
+                    moved.rounds,
+                ));
+                self.triples.work(work);
+                self.moves.note(node, work, moved.free)
             }
             _ => Some(node.free),
         }
@@ -135,10 +148,12 @@ impl<'a, A: Allocator + Copy> ThieleSearch<'a, A> {
     {
         let uses = &self.aids.uses.pairs;
         let is_long = uses.are_due() && self.counts_pairs.get();
-        let is_due = is_long && node.left >= fewest_seats(self.values.rule());
-        // Counting pairs takes about as long as a round over the rows.
-        self.moves.work(u32::from(is_due));
-        self.triples.work(if is_due { PAIRS_WORK } else { 1 });
+        let is_due = is_long
+            && node.left >= fewest_seats(self.values.rule())
+            && node.set.len() <= MOST_WITH_PAIRS;
+        let work = if is_due { costs::PAIRS } else { 1 };
+        self.moves.work(work);
+        self.triples.work(work);
         if !is_due {
             return Some(node.free);
         }
@@ -146,9 +161,9 @@ impl<'a, A: Allocator + Copy> ThieleSearch<'a, A> {
     }
 
     /// Like `eligible`, but by a lean search under `cc`, if few seats are left and such searches help.
-    fn by_uncovered(&self, node: &Node, least: u128) -> Option<CandSet>
+    fn by_uncovered(&self, node: &Node, value: u128, least: u128) -> Option<CandSet>
         requires is_node { IsNode self.now.election.m node.now.set node.now.free }
-        requires valued { IsValued self.now node.now.set node.now.value }
+        requires valued { IsValued self.now node.now.set value }
         ensures { Narrows (tally_value self.now) self.now.election.m node.now least result }
     {
         let uses = &self.aids.uses.uncovered;
@@ -156,7 +171,7 @@ impl<'a, A: Allocator + Copy> ThieleSearch<'a, A> {
         if self.values.rule() != ThieleRule::Cc || !is_few || !uses.are_due() {
             return Some(node.free);
         }
-        let may_reach = !self.is_refuted(node, least);
+        let may_reach = !self.is_refuted(node, value, least);
         uses.note(may_reach.then_some(node.free))
     }
 
@@ -164,15 +179,15 @@ impl<'a, A: Allocator + Copy> ThieleSearch<'a, A> {
     /// certain.
     // Not inlined: its tables take 5 KB of stack, which would lie at each level of a search.
     #[inline(never)]
-    fn is_refuted(&self, node: &Node, least: u128) -> bool
+    fn is_refuted(&self, node: &Node, value: u128, least: u128) -> bool
         requires rule { self.now.rule ≡ Cc }
         requires some { 1 ≤ self.now.k }
         requires is_node { IsNode self.now.election.m node.now.set node.now.free }
-        requires valued { IsValued self.now node.now.set node.now.value }
+        requires valued { IsValued self.now node.now.set value }
         ensures { result ≡ true → IsOutOfReach (tally_value self.now) self.now.election.m node.now.set node.now.free
             node.now.left least }
     {
-        let Some(due) = least.checked_sub(node.value) else {
+        let Some(due) = least.checked_sub(value) else {
             return false;
         };
         let due = due.min(u128::from(u32::MAX));
@@ -184,13 +199,13 @@ impl<'a, A: Allocator + Copy> ThieleSearch<'a, A> {
 
     /// Like `eligible`, but where a node is entered. A lean search under `cc` comes last: among neighbours prices end
     /// most nodes sooner.
-    fn eligible_at_entry(&self, node: &Node, least: u128) -> Option<CandSet>
+    fn eligible_at_entry(&self, node: &Node, value: u128, least: u128) -> Option<CandSet>
         requires is_node { IsNode self.now.election.m node.now.set node.now.free }
-        requires valued { IsValued self.now node.now.set node.now.value }
+        requires valued { IsValued self.now node.now.set value }
         ensures { Narrows (tally_value self.now) self.now.election.m node.now least result }
     {
         let free = self.bounded_at_entry(node, least)?;
-        self.by_uncovered(&Node { free, ..*node }, least)
+        self.by_uncovered(&Node { free, ..*node }, value, least)
     }
 
     /// Like `eligible`, but where a node is entered. Triples come last, where they pay.
@@ -202,13 +217,14 @@ impl<'a, A: Allocator + Copy> ThieleSearch<'a, A> {
         self.triple_narrowed(&Node { free, ..*node }, least)
     }
 
-    /// Like `eligible`, but where candidates have left a node after its entry.
+    /// Like `eligible`, but where candidates have left a node after its entry. Triples are counted with an even number
+    /// of free candidates.
     fn eligible_again(&self, node: &Node, least: u128) -> Option<CandSet>
         requires is_node { IsNode self.now.election.m node.now.set node.now.free }
         ensures { Narrows (tally_value self.now) self.now.election.m node.now least result }
     {
         let free = self.eligible(node, least, AGAIN)?;
-        if !self.triples.is_turn(node.left) {
+        if node.free.len() % 2 != 0 {
             return Some(free);
         }
         self.triple_narrowed(&Node { free, ..*node }, least)
@@ -219,14 +235,25 @@ impl<'a, A: Allocator + Copy> ThieleSearch<'a, A> {
         requires is_node { IsNode self.now.election.m node.now.set node.now.free }
         ensures { Narrows (tally_value self.now) self.now.election.m node.now least result }
     {
-        if !self.counts_pairs.get() || !self.triples.is_due(node) {
+        if !self.counts_pairs.get() || !self.may_count_triples(node) {
             return Some(node.free);
         }
-        self.triples.note(node, self.by_triples(node, least))
+        let work = costs::triples(self.values.profile().rows(), node.free.len());
+        self.moves.work(work);
+        self.triples.note(node, work, self.by_triples(node, least))
+    }
+
+    /// Whether triples are worth counting at a node. Under `cc` they rule out too little. Further down, their tables
+    /// would take too much stack.
+    fn may_count_triples(&self, node: &Node) -> bool {
+        self.values.rule() != ThieleRule::Cc
+            && node.left >= FEWEST_SEATS
+            && node.set.len() <= MOST_CHOSEN
+            && self.triples.is_due(node.left)
     }
 
     /// Like `eligible`, but by cubic majorants, if at least three seats are left.
-    // Not inlined: its tables take 41 KB of stack, which would lie beside the moving of multipliers.
+    // Not inlined: its tables take 39 KB of stack, which would lie beside the moving of multipliers.
     #[inline(never)]
     fn by_triples(&self, node: &Node, least: u128) -> Option<CandSet>
         requires is_node { IsNode self.now.election.m node.now.set node.now.free }
@@ -240,6 +267,7 @@ impl<'a, A: Allocator + Copy> ThieleSearch<'a, A> {
                     given,
                     least,
                     shift: shift_for(profile.voters()),
+                    memory: &self.aids.table,
                 };
                 search.narrowed(node)
             }
@@ -301,8 +329,7 @@ impl<'a, A: Allocator + Copy> ThieleSearch<'a, A> {
 impl<'a, A: Allocator + Copy> Narrowing for ThieleSearch<'a, A> {
     ghost is_valued = { λ tally set value. IsValued tally set value };
 
-    ghost is_plan = { λ tally set left plan. (n : ℕ) → has_member plan.eligible n ≡ true
-        → slice_index plan.worths n ≡ gain (increments tally.rule tally.k) tally.election.rows set n };
+    ghost is_plan = { λ tally set left plan. IsGainPlan tally set plan };
 
     fn dominated(&self, node: &Node, tried: u8) -> CandSet {
         let Some(dominance) = &self.aids.dominance else {
@@ -326,19 +353,24 @@ impl<'a, A: Allocator + Copy> Narrowing for ThieleSearch<'a, A> {
         self.symmetries.end_lists(profile, &self.aids.clones)
     }
 
-    fn whole_value(&self, node: &Node) -> u128 {
-        node.value
+    fn root_value(&self, node: &Node) -> u128 {
+        self.counted(node.set)
     }
 
-    fn plan(&self, node: &Node, least: u128) -> Option<Plan> {
+    fn whole_value(&self, _node: &Node, value: u128) -> u128 {
+        value
+    }
+
+    fn plan(&self, node: &Node, value: u128, least: u128) -> Option<Plan> {
         self.moves.enter(node.left);
         self.triples.enter(node.left);
         self.symmetries.enter(node.left);
-        let free = self.eligible_at_entry(node, least)?;
+        let free = self.eligible_at_entry(node, value, least)?;
         let gains = self.gains_at(node.set, free);
-        let due = least.saturating_sub(node.value);
+        let due = least.saturating_sub(value);
         let eligible = gains.members_for(free, node.left, due)?;
         Some(Plan {
+            value,
             eligible,
             choices: eligible,
             worths: gains,
@@ -350,20 +382,24 @@ impl<'a, A: Allocator + Copy> Narrowing for ThieleSearch<'a, A> {
     fn narrowed(&self, plan: &Plan, node: &Node, least: u128) -> Option<CandSet> {
         // Gains are known here, so what they rule out is left out before anything else is counted. In the other order,
         // parties with noise took up to twice as long under `pav`.
-        let free = self.promising(&plan.worths, node, least)?;
+        let free = self.promising(&plan.worths, node, plan.value, least)?;
         self.eligible_again(&Node { free, ..*node }, least)
     }
 
     fn child(&self, plan: &Plan, node: &Node, next: u8) -> Node {
         let child = Node {
             set: node.set.with(next),
-            value: node.value + plan.worths.of(next),
             free: node.free.without(next),
             left: node.left - 1,
         };
-        let promising = self.promising(&plan.worths, &child, plan.least);
+        let value = self.child_value(plan, node, next);
+        let promising = self.promising(&plan.worths, &child, value, plan.least);
         let free = promising.unwrap_or(CandSet::empty());
         Node { free, ..child }
+    }
+
+    fn child_value(&self, plan: &Plan, _node: &Node, next: u8) -> u128 {
+        plan.value + plan.worths.of(next)
     }
 }
 

@@ -4,23 +4,22 @@ ghost use Rattle.ballot_base.specs.Clones.{clones_among};
 ghost use Rattle.ballot_base.specs.Lists.{IsIncreasing};
 ghost use Rattle.ballot_base.specs.Limits.{most_members};
 ghost use Rattle.tie_walk.specs.Values.{tally_value, thiele_of, Thiele};
-ghost use Rattle.tie_walk.specs.Winners.{best_value};
 ghost use Rattle.tie_walk.specs.Ceilings.{ceiling};
-ghost use Rattle.thiele_search.specs.Steps.Aided.{IsAided, IsMemoryFor};
+ghost use Rattle.thiele_search.specs.Steps.Aided.{IsAided, IsMemoryFor, IsValued};
 
 use crate::columns::Columns;
+use crate::costs::{self, RARE};
 use crate::dominance::Dominance;
-use crate::payoff::Payoff;
 use crate::search::Aids;
 use crate::symmetry::Symmetries;
 use crate::trials::Uses;
 use ballot_base::{CandSet, Clones, Profile, ThieleRule};
 use row_multipliers::multipliers::Multipliers;
-use row_multipliers::{Moves, Node};
+use row_multipliers::{Node, Payoff};
 use std::alloc::{AllocError, Allocator, Global};
 use std::cell::Cell;
 use std::marker::Model;
-use thiele_bounds::{HitSums, Priced};
+use thiele_bounds::{HitSums, Priced, TripleMemory};
 use tie_search::{Searchable, Tied, WithClones, descent};
 use tie_walk::{Tally, ThieleTally};
 
@@ -32,6 +31,7 @@ pub struct SearchMemory<'a, A: Allocator + Copy = Global> {
     k: u8,
     columns: Option<Columns<A>>,
     multipliers: Multipliers<A>,
+    triples: TripleMemory<A>,
 }
 
 impl<'a, A: Allocator + Copy> Model for SearchMemory<'a, A> {
@@ -43,8 +43,9 @@ impl<'a, A: Allocator + Copy> Model for SearchMemory<'a, A> {
 }
 
 impl<'a, A: Allocator + Copy + Drop> SearchMemory<'a, A> {
-    /// Takes 24 bytes for each different ballot, and at most 532,480 more. `k` is at least 1, and at most 40 and the
-    /// number of candidates. A failed allocation leaves nothing.
+    /// Takes 24 bytes for each different ballot, and at most 915,720 more: 383,240 of them for triples of 64
+    /// candidates, and 14,168 for those of 20. `k` is at least 1, and at most 40 and the number of candidates. A failed
+    /// allocation leaves nothing.
     pub fn new(
         alloc: A,
         profile: &'a Profile<A>,
@@ -61,16 +62,9 @@ impl<'a, A: Allocator + Copy + Drop> SearchMemory<'a, A> {
             k,
             columns: Columns::of(alloc, profile, rule, k)?,
             multipliers: Multipliers::of(alloc, profile.rows(), 0)?,
+            triples: TripleMemory::of(alloc, profile.m())?,
         })
     }
-}
-
-/// The number of rows of a round that take about as long as a visit to a set, which passes over blocks of voters. Under
-/// `cc` a visit counts first hits only. With 32 under `cc` as well, 40 random candidates took up to two fifths longer.
-fn rows_per_visit(rule: ThieleRule) -> usize
-    ensures { 1 ≤ result }
-{
-    if rule == ThieleRule::Cc { 8 } else { 32 }
 }
 
 /// A search among the committees of `k` under a Thiele rule. A value is the score times the common denominator of the
@@ -84,7 +78,7 @@ pub struct ThieleSearch<'a, A: Allocator + Copy = Global> {
     // Whether pairs are counted. A search of few sets ends sooner without them.
     pub(crate) counts_pairs: Cell<bool>,
     // Where it pays to move multipliers, over all questions so far.
-    pub(crate) moves: Moves,
+    pub(crate) moves: Payoff,
     // Where it pays to count triples, over all questions so far.
     pub(crate) triples: Payoff,
     // Permutations of the candidates that keep the election.
@@ -106,7 +100,7 @@ impl<'a, A: Allocator + Copy + Drop> ThieleSearch<'a, A> {
         ensures { result ≡ memory.entry }
     {
         let (profile, k) = (memory.values.profile(), memory.k);
-        let rule = memory.values.rule();
+        let (rule, m) = (memory.values.rule(), profile.m());
         let search = ThieleSearch {
             aids: Aids {
                 clones: Clones::of(profile),
@@ -114,18 +108,19 @@ impl<'a, A: Allocator + Copy + Drop> ThieleSearch<'a, A> {
                 columns: memory.columns,
                 priced: None,
                 sums: HitSums::for_pairs(rule, k, profile.voters()),
+                table: memory.triples,
                 uses: Uses::none(),
             },
             values: memory.values,
             good: CandSet::empty(),
             counts_pairs: Cell::new(false),
-            moves: Moves::new(profile.rows().div_ceil(rows_per_visit(rule)) as u64),
-            triples: Payoff::new(profile.rows()),
+            moves: Payoff::new(RARE, costs::moves(profile.rows(), rule)),
+            triples: Payoff::new(RARE, costs::triples(profile.rows(), m)),
             symmetries: Symmetries::none(),
         };
         let good = search.grown(k);
         // No committee is worth more than all candidates together, so prices may have nothing to show.
-        let is_best = search.value(good) == search.value(CandSet::all(profile.m()));
+        let is_best = search.value(good) == search.value(CandSet::all(m));
         let priced = if is_best {
             None
         } else {
@@ -160,12 +155,7 @@ impl<'a, A: Allocator + Copy> Tally for ThieleSearch<'a, A> {
     }
 
     fn value(&self, set: CandSet) -> u128 {
-        match &self.aids.columns {
-            // Under `cc` it is the number of voters who approve a member. Counted row by row, long lists of ties took
-            // up to twice the instructions.
-            Some(columns) if self.values.rule() == ThieleRule::Cc => columns.covered(set) as u128,
-            _ => self.values.value(set),
-        }
+        self.counted(set)
     }
 
     fn bound(&self, c: u8, set: CandSet, left: u8) -> u128 {
@@ -207,7 +197,6 @@ impl<'a, A: Allocator + Copy> Searchable for ThieleSearch<'a, A> {
         };
         let all = Node {
             set: CandSet::empty(),
-            value: self.value(CandSet::empty()),
             free: CandSet::all(self.m()),
             left: k,
         };
@@ -230,6 +219,19 @@ impl<'a, A: Allocator + Copy> Searchable for ThieleSearch<'a, A> {
 }
 
 impl<'a, A: Allocator + Copy> ThieleSearch<'a, A> {
+    /// The value of a set.
+    pub(crate) fn counted(&self, set: CandSet) -> u128
+        requires { IsIncreasing 1 self.now.election.m set }
+        ensures { IsValued self.now set result }
+    {
+        match &self.aids.columns {
+            // Under `cc` it is the number of voters who approve a member. Counted row by row, long lists of ties took
+            // up to twice the instructions.
+            Some(columns) if self.values.rule() == ThieleRule::Cc => columns.covered(set) as u128,
+            _ => self.values.value(set),
+        }
+    }
+
     /// Whether the good committee, which has this value, is known to be the best. Any answer works.
     fn is_best(&self, value: u128) -> bool {
         value == self.value(CandSet::all(self.m()))

@@ -15,7 +15,7 @@ use Rattle.ballot_base.proofs.Increasing.{IsIncreasing-filter, has_member-either
 use Rattle.tie_walk.proofs.StepLemmas.{has_member-range}
 use Rattle.tie_search.specs.Alike.{AreClasses, Becomes, done, step}
 use Rattle.tie_search.specs.Steps.Branches.{IsBranch, completes}
-use Rattle.tie_search.specs.declared.branch.Branch.{Branch}
+use Rattle.row_multipliers.specs.declared.node.Node.{Node}
 use Rattle.tie_search.proofs.BranchLemmas.{branch-node}
 use Rattle.tie_search.proofs.CloneLemmas.{hits-exchanged}
 use Rattle.row_multipliers.proofs.HitLemmas.{hits-append, hits-more}
@@ -49,7 +49,7 @@ clones-classes m rows e c d first last low high is =
 
 -- ---- branches
 
-module _ (m k : ℕ) (branch : Branch) (is : IsBranch m k branch) (other : List ℕ) (whole : completes branch other ≡ true) (class_ : List ℕ) where
+module _ (m k : ℕ) (branch : Node) (is : IsBranch m k branch) (other : List ℕ) (whole : completes branch other ≡ true) (class_ : List ℕ) where
   parts : (includes other branch.set ≡ true) × (includes (either_members branch.set branch.free) other ≡ true)
   parts = and_parts (includes other branch.set) (includes (either_members branch.set branch.free) other) whole
 

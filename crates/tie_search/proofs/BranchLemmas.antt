@@ -15,20 +15,20 @@ use Rattle.tie_search.specs.Alike.{AreAlike}
 use Rattle.row_multipliers.specs.Completions.{IsCompletion, IsNode, IsOutOfReach, IsReaching}
 use Rattle.tie_search.specs.Tied.{IsBest}
 use Rattle.tie_search.specs.Steps.Branches.{IsAnswer, IsBarren, IsBranch, IsWinnerOf, completes}
-use Rattle.tie_search.specs.declared.branch.Branch.{Branch}
+use Rattle.row_multipliers.specs.declared.node.Node.{Node}
 use Rattle.tie_search.proofs.CloneLemmas.{clones-left, minus-is}
 use Rattle.row_multipliers.proofs.CompletionLemmas.{added, added-free, added-size, completion-back, completion-few, completion-members, completion-self, completion-whole, completion-with, completion-without, member-high, member-low, or-more}
 use Rattle.tie_search.proofs.ReachLemmas.{increasing-append}
 
 -- the branch after a candidate has joined its set
-abbrev pub joined : Branch → ℕ → List ℕ → Branch
-joined branch next rest = record { set = with_member branch.set next; free = rest }
+abbrev pub joined : Node → ℕ → List ℕ → Node
+joined branch next rest = record { set = with_member branch.set next; free = rest; left = branch.left - 1 }
 
 -- the branch after candidates have left
-abbrev pub passed : Branch → List ℕ → Branch
-passed branch rest = record { set = branch.set; free = rest }
+abbrev pub passed : Node → List ℕ → Node
+passed branch rest = record { set = branch.set; free = rest; left = branch.left }
 
-pub branch-node : (m k : ℕ) (branch : Branch) → IsBranch m k branch → IsNode m branch.set branch.free
+pub branch-node : (m k : ℕ) (branch : Node) → IsBranch m k branch → IsNode m branch.set branch.free
 branch-node m k branch is = record {
   set_within = IsIncreasing-higher 1 is.last m branch.set is.within is.set_upto;
   free_within = IsIncreasing-lower 1 (is.last + 1) m branch.free (omega arith) is.free_after;
@@ -36,14 +36,14 @@ branch-node m k branch is = record {
 }
 
 -- what completes the set completes the branch
-pub completes-from : (m : ℕ) (branch : Branch) (left : ℕ) (committee : List ℕ) → IsCompletion m branch.set branch.free left committee → completes branch committee ≡ true
-completes-from m branch left committee whole =
+pub completes-from : (m : ℕ) (branch : Node) (committee : List ℕ) → IsCompletion m branch.set branch.free branch.left committee → completes branch committee ≡ true
+completes-from m branch committee whole =
     and_from (includes committee branch.set) (includes (either_members branch.set branch.free) committee)
     (all-from (has_member committee) branch.set (λ n here. whole.whole n here))
     (all-from (has_member (either_members branch.set branch.free)) committee (λ n here. has_member-either branch.set branch.free n ∙ whole.within n here))
 
 -- it does so as well if more are free
-completes-wider : (branch : Branch) (free committee : List ℕ) → ((n : ℕ) → has_member free n ≡ true → has_member branch.free n ≡ true)
+completes-wider : (branch : Node) (free committee : List ℕ) → ((n : ℕ) → has_member free n ≡ true → has_member branch.free n ≡ true)
     → completes (passed branch free) committee ≡ true → completes branch committee ≡ true
 completes-wider branch free committee among whole =
     let either = either_members branch.set branch.free in
@@ -57,7 +57,7 @@ includes-through : (all some few : List ℕ) → includes all some ≡ true → 
 includes-through all some few outer inner = all-from (has_member all) few (λ n here. all-at (has_member all) some n outer (all-at (has_member some) few n inner here))
 
 -- what completes a branch within another completes the other
-pub completes-within : (branch inner : Branch) → includes inner.set branch.set ≡ true → includes (either_members branch.set branch.free) (either_members inner.set inner.free) ≡ true
+pub completes-within : (branch inner : Node) → includes inner.set branch.set ≡ true → includes (either_members branch.set branch.free) (either_members inner.set inner.free) ≡ true
     → (committee : List ℕ) → completes inner committee ≡ true → completes branch committee ≡ true
 completes-within branch inner sets all committee whole =
     let parts = and_parts (includes committee inner.set) (includes (either_members inner.set inner.free) committee) whole in
@@ -65,7 +65,7 @@ completes-within branch inner sets all committee whole =
     (includes-through (either_members branch.set branch.free) (either_members inner.set inner.free) committee all parts.1)
 
 -- no member is past the candidates
-pub completes-up : (m k : ℕ) (branch : Branch) (committee : List ℕ) (last : ℕ) → IsBranch m k branch → IsIncreasing 1 last committee → completes branch committee ≡ true → IsIncreasing 1 m committee
+pub completes-up : (m k : ℕ) (branch : Node) (committee : List ℕ) (last : ℕ) → IsBranch m k branch → IsIncreasing 1 last committee → completes branch committee ≡ true → IsIncreasing 1 m committee
 completes-up m k branch committee last is up whole = narrower 1 committee up (λ n here. member-high 1 m either n either-up (all-at (has_member either) committee n inside here))
   where
     either : List ℕ
@@ -91,80 +91,73 @@ best-from value m k committee up size reaches = record {
   best = omega (arith, reaches, no_greater_value value m k committee (increasing_lists-contains 1 m k committee (up, size)));
 }
 
-module _ (value : List ℕ → ℕ) (m k : ℕ) (branch : Branch) (is : IsBranch m k branch) where
+module _ (value : List ℕ → ℕ) (m k : ℕ) (branch : Node) (is : IsBranch m k branch) where
   -- a winner completes the branch exactly if it completes its set
-  pub completion-from : (left : ℕ) (committee : List ℕ) → length branch.set + left ≡ k → IsWinnerOf value m k branch committee → IsCompletion m branch.set branch.free left committee
-  completion-from left committee size wins =
+  pub completion-from : (committee : List ℕ) → IsWinnerOf value m k branch committee → IsCompletion m branch.set branch.free branch.left committee
+  completion-from committee wins =
       let either = either_members branch.set branch.free in
       let parts = and_parts (includes committee branch.set) (includes either committee) wins.whole in
       record {
         candidates = wins.best.candidates;
         whole = λ n here. all-at (has_member committee) branch.set n parts.0 here;
         within = λ n here. sym (has_member-either branch.set branch.free n) ∙ all-at (has_member either) committee n parts.1 here;
-        size = omega (arith, size, wins.best.size);
+        size = omega (arith, is.size, wins.best.size);
       }
 
-  pub winner-from : (left : ℕ) (committee : List ℕ) → length branch.set + left ≡ k → IsCompletion m branch.set branch.free left committee → best_value value m k ≤ value committee
-      → IsWinnerOf value m k branch committee
-  winner-from left committee size whole reaches = record {
-    best = best-from value m k committee whole.candidates (omega (arith, size, whole.size)) reaches;
-    whole = completes-from m branch left committee whole;
+  pub winner-from : (committee : List ℕ) → IsCompletion m branch.set branch.free branch.left committee → best_value value m k ≤ value committee → IsWinnerOf value m k branch committee
+  winner-from committee whole reaches = record {
+    best = best-from value m k committee whole.candidates (omega (arith, is.size, whole.size)) reaches;
+    whole = completes-from m branch committee whole;
   }
-
-  abbrev pub room : ℕ
-  room = k - length branch.set
-
-  room-is : length branch.set + room ≡ k
-  room-is = omega (arith, is.size)
 
   -- so what a search finds is a winner
   pub found-answer : (answer : Option (List ℕ))
-      → MatchOption answer (IsOutOfReach value m branch.set branch.free room (best_value value m k)) (IsReaching value m branch.set branch.free room (best_value value m k))
+      → MatchOption answer (IsOutOfReach value m branch.set branch.free branch.left (best_value value m k)) (IsReaching value m branch.set branch.free branch.left (best_value value m k))
       → IsAnswer value m k branch answer
-  found-answer None none = λ committee wins. let under : value committee < best_value value m k = none committee (completion-from room committee room-is wins) in omega (arith, under, wins.best.best)
-  found-answer (Some committee) found = winner-from room committee room-is found.completes found.reaches
+  found-answer None none = λ committee wins. let under : value committee < best_value value m k = none committee (completion-from committee wins) in omega (arith, under, wins.best.best)
+  found-answer (Some committee) found = winner-from committee found.completes found.reaches
 
   -- a winner is the set and free candidates after its members
   pub added-later : (committee : List ℕ) → IsWinnerOf value m k branch committee
-      → (more : List ℕ) × (committee ≡ branch.set ++ more) × (length more ≡ room) × ((n : ℕ) → has_member more n ≡ true → has_member branch.free n ≡ true)
+      → (more : List ℕ) × (committee ≡ branch.set ++ more) × (length more ≡ branch.left) × ((n : ℕ) → has_member more n ≡ true → has_member branch.free n ≡ true)
   added-later committee wins =
       let node = branch-node m k branch is in
-      let done = completion-from room committee room-is wins in
-      let more = added m branch.set branch.free room committee node done in
+      let done = completion-from committee wins in
+      let more = added m branch.set branch.free branch.left committee node done in
       let rises : IsIncreasing (is.last + 1) m more = IsIncreasing-filter (has_member committee) (is.last + 1) m branch.free is.free_after in (
         more,
         same_increasing 1 m committee (branch.set ++ more) wins.best.candidates (increasing-append 1 is.last m branch.set more (omega arith) is.within is.set_upto rises)
-            (completion-members m branch.set branch.free room committee node done),
-        added-size m branch.set branch.free room committee node done,
-        added-free m branch.set branch.free room committee node done,
+            (completion-members m branch.set branch.free branch.left committee node done),
+        added-size m branch.set branch.free branch.left committee node done,
+        added-free m branch.set branch.free branch.left committee node done,
       )
 
   -- with the first of those candidates, if there is one
-  pub goes-on : (committee : List ℕ) → length branch.set < k → IsWinnerOf value m k branch committee
+  pub goes-on : (committee : List ℕ) → 1 ≤ branch.left → IsWinnerOf value m k branch committee
       → (n : ℕ) × (more : List ℕ) × (committee ≡ branch.set ++ n ∷ more) × (has_member branch.free n ≡ true)
   goes-on committee short wins = let all = added-later committee wins in by all.0 all.1 all.2 all.3
     where
-      by : (more : List ℕ) → committee ≡ branch.set ++ more → length more ≡ room → ((n : ℕ) → has_member more n ≡ true → has_member branch.free n ≡ true)
+      by : (more : List ℕ) → committee ≡ branch.set ++ more → length more ≡ branch.left → ((n : ℕ) → has_member more n ≡ true → has_member branch.free n ≡ true)
           → (n : ℕ) × (more : List ℕ) × (committee ≡ branch.set ++ n ∷ more) × (has_member branch.free n ≡ true)
       by [] made many free = absurd (omega (arith, many, short))
       by (n ∷ more) made many free = (n, more, made, free n (has_member_head n more))
 
   -- a set of k that a winner completes is the winner
-  pub whole-is : (committee : List ℕ) → length branch.set ≡ k → IsWinnerOf value m k branch committee → committee ≡ branch.set
+  pub whole-is : (committee : List ℕ) → branch.left ≡ 0 → IsWinnerOf value m k branch committee → committee ≡ branch.set
   whole-is committee long wins =
-      completion-whole m branch.set branch.free 0 committee (branch-node m k branch is) (completion-from 0 committee (omega (arith, long)) wins) refl
+      completion-whole m branch.set branch.free branch.left committee (branch-node m k branch is) (completion-from committee wins) long
 
   -- it is one if it is worth enough
-  pub whole-winner : length branch.set ≡ k → best_value value m k ≤ value branch.set → IsWinnerOf value m k branch branch.set
-  whole-winner long reaches = winner-from 0 branch.set (omega (arith, long)) (completion-self m branch.set branch.free (branch-node m k branch is)) reaches
+  pub whole-winner : branch.left ≡ 0 → best_value value m k ≤ value branch.set → IsWinnerOf value m k branch branch.set
+  whole-winner long reaches = winner-from branch.set (rw long (completion-self m branch.set branch.free (branch-node m k branch is))) reaches
 
-  pub whole-barren : length branch.set ≡ k → value branch.set < best_value value m k → IsBarren value m k branch
+  pub whole-barren : branch.left ≡ 0 → value branch.set < best_value value m k → IsBarren value m k branch
   whole-barren long under committee wins = omega (arith, under, ap value (whole-is committee long wins), wins.best.best)
 
   -- too few are free
-  pub few-barren : length branch.set + length branch.free < k → IsBarren value m k branch
+  pub few-barren : length branch.free < branch.left → IsBarren value m k branch
   few-barren few committee wins =
-      let enough = completion-few m branch.set branch.free room committee (branch-node m k branch is) (completion-from room committee room-is wins) in
+      let enough = completion-few m branch.set branch.free branch.left committee (branch-node m k branch is) (completion-from committee wins) in
       omega (arith, enough, few)
 
   -- no more candidates are free than there are
@@ -173,7 +166,7 @@ module _ (value : List ℕ → ℕ) (m k : ℕ) (branch : Branch) (is : IsBranch
 
 -- ---- the first free candidate
 
-module _ (value : List ℕ → ℕ) (m k : ℕ) (branch : Branch) (is : IsBranch m k branch) (short : length branch.set < k) (next : ℕ) (rest : List ℕ) (first : branch.free ≡ next ∷ rest) where
+module _ (value : List ℕ → ℕ) (m k : ℕ) (branch : Node) (is : IsBranch m k branch) (short : 1 ≤ branch.left) (next : ℕ) (rest : List ℕ) (first : branch.free ≡ next ∷ rest) where
   pub free-up : IsIncreasing (is.last + 1) m (next ∷ rest)
   free-up = subst (IsIncreasing (is.last + 1) m) first is.free_after
 
@@ -189,7 +182,7 @@ module _ (value : List ℕ → ℕ) (m k : ℕ) (branch : Branch) (is : IsBranch
     within = free-up.1;
     set_upto = rw grown-is (IsIncreasing-push 1 is.last branch.set next is.set_upto (omega (arith, free-up.0)) (omega (arith, free-up.0)));
     free_after = free-up.2;
-    size = omega (arith, short, grown-size);
+    size = omega (arith, short, grown-size, is.size);
   }
 
   pub without-branch : IsBranch m k (passed branch rest)
@@ -210,9 +203,6 @@ module _ (value : List ℕ → ℕ) (m k : ℕ) (branch : Branch) (is : IsBranch
   node : IsNode m branch.set branch.free
   node = branch-node m k branch is
 
-  left : ℕ
-  left = k - length branch.set
-
   -- the free candidates (passed branch rest) the first
   struck : without_member branch.free next ≡ rest
   struck = rw (first, eq-eqb next next refl) (by (next + 1) rest (omega arith) free-up.2)
@@ -223,30 +213,29 @@ module _ (value : List ℕ → ℕ) (m k : ℕ) (branch : Branch) (is : IsBranch
 
   -- who completes the branch completes the one with the candidate or the one (passed branch rest)
   pub split-same : (committee : List ℕ) → IsBest value m k committee → completes branch committee ≡ (completes (joined branch next rest) committee || completes (passed branch rest) committee)
-  unfolding left
   split-same committee best =
       both_ways (completes branch committee) (completes (joined branch next rest) committee || completes (passed branch rest) committee) down
       (λ some. up (completes (joined branch next rest) committee) refl some)
     where
       down : completes branch committee ≡ true → (completes (joined branch next rest) committee || completes (passed branch rest) committee) ≡ true
       down whole =
-          let done = completion-from value m k branch is left committee (omega (arith, short)) (record { best = best; whole = whole }) in
+          let done = completion-from value m k branch is committee (record { best = best; whole = whole }) in
           elim (cases_Bool (has_member committee next)) [
             | inl in_ ↦
                 or_left (completes (joined branch next rest) committee) (completes (passed branch rest) committee)
-                (completes-from m (joined branch next rest) (left - 1) committee (subst (λ l. IsCompletion m (with_member branch.set next) l (left - 1) committee) struck
-                (completion-with m branch.set branch.free left next node here committee (omega (arith, short)) done in_)))
+                (completes-from m (joined branch next rest) committee (subst (λ l. IsCompletion m (with_member branch.set next) l (branch.left - 1) committee) struck
+                (completion-with m branch.set branch.free branch.left next node here committee short done in_)))
             | inr out ↦
                 or_right (completes (joined branch next rest) committee) (completes (passed branch rest) committee)
-                (completes-from m (passed branch rest) left committee (subst (λ l. IsCompletion m branch.set l left committee) struck
-                (completion-without m branch.set branch.free left next node here committee done out)))
+                (completes-from m (passed branch rest) committee (subst (λ l. IsCompletion m branch.set l branch.left committee) struck
+                (completion-without m branch.set branch.free branch.left next node here committee done out)))
           ]
 
       up : (b : Bool) → completes (joined branch next rest) committee ≡ b → (b || completes (passed branch rest) committee) ≡ true → completes branch committee ≡ true
       up true with-it some =
-          completes-from m branch left committee
-          (completion-back m branch.set branch.free left next node here rest committee (omega (arith, short)) free-rest
-          (completion-from value m k (joined branch next rest) with-branch (left - 1) committee (omega (arith, short, grown-size)) (record { best = best; whole = with-it })))
+          completes-from m branch committee
+          (completion-back m branch.set branch.free branch.left next node here rest committee short free-rest
+          (completion-from value m k (joined branch next rest) with-branch committee (record { best = best; whole = with-it })))
       up false out some = completes-wider branch rest committee free-rest some
 
   -- a winner with the candidate goes on with it, and one (passed branch rest) it goes on with a greater one
@@ -279,23 +268,23 @@ module _ (value : List ℕ → ℕ) (m k : ℕ) (branch : Branch) (is : IsBranch
 
     -- where no winner has the candidate, its clones are in none that completes the branch (passed branch rest)
     pub left-completes : (committee : List ℕ) → IsBest value m k committee → completes branch committee ≡ completes (passed branch (other_members rest (slice_index_or classes next []))) committee
-    unfolding left clones
+    unfolding clones
     left-completes committee best =
         both_ways (completes branch committee) (completes (passed branch (other_members rest (slice_index_or classes next []))) committee) down
         (completes-wider branch (other_members rest clones) committee (λ n in_. free-rest n (minus-is rest clones n in_)))
       where
-        none-with : IsOutOfReach value m (with_member branch.set next) (without_member branch.free next) (left - 1) (best_value value m k)
+        none-with : IsOutOfReach value m (with_member branch.set next) (without_member branch.free next) (branch.left - 1) (best_value value m k)
         none-with other whole = elim (cases_lt (value other) (best_value value m k)) [
           | inl under ↦ under
           | inr reaches ↦
-              absurd (none other (winner-from value m k (joined branch next rest) with-branch (left - 1) other (omega (arith, short, grown-size))
-              (subst (λ l. IsCompletion m (with_member branch.set next) l (left - 1) other) struck whole) (omega (arith, reaches))))
+              absurd (none other (winner-from value m k (joined branch next rest) with-branch other
+              (subst (λ l. IsCompletion m (with_member branch.set next) l (branch.left - 1) other) struck whole) (omega (arith, reaches))))
         ]
 
         down : completes branch committee ≡ true → completes (passed branch (other_members rest (slice_index_or classes next []))) committee ≡ true
         down whole =
-            completes-from m (passed branch (other_members rest (slice_index_or classes next []))) left committee
-            (subst (λ l. IsCompletion m branch.set (other_members l clones) left committee) struck
-            (clones-left value m branch.set left (best_value value m k) branch.free clones next (omega (arith, short)) node here
+            completes-from m (passed branch (other_members rest (slice_index_or classes next []))) committee
+            (subst (λ l. IsCompletion m branch.set (other_members l clones) branch.left committee) struck
+            (clones-left value m branch.set branch.left (best_value value m k) branch.free clones next short node here
             (λ other d up has out class. alike other next d up (omega (arith, free-up.0)) free-up.1 class has out)
-            none-with committee (completion-from value m k branch is left committee (omega (arith, short)) (record { best = best; whole = whole })) (omega (arith, best.best))))
+            none-with committee (completion-from value m k branch is committee (record { best = best; whole = whole })) (omega (arith, best.best))))

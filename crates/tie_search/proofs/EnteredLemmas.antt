@@ -17,7 +17,7 @@ use Rattle.ballot_base.proofs.ListLemmas.{Contains-later}
 use Rattle.ballot_base.proofs.Sums.{sum-most}
 use Rattle.tie_search.specs.Asked.{beginnings, begins_some}
 use Rattle.tie_search.specs.Steps.Branches.{IsBarren, IsBranch, IsStep, IsWinnerOf, entries, longer_beginnings, winners_of}
-use Rattle.tie_search.specs.declared.branch.Branch.{Branch}
+use Rattle.row_multipliers.specs.declared.node.Node.{Node}
 use Rattle.tie_search.proofs.BranchLemmas.{branch-node, grown-size, joined, passed, with-begins, with-branch, without-begins}
 use Rattle.tie_search.proofs.ReachLemmas.{any-found, any-true}
 use Rattle.tie_search.proofs.StackLemmas.{found-step, inside-from, joined-winners, no-winners, none-kept, one-kept, one-winner, same-step, two-step, wins-from}
@@ -133,7 +133,7 @@ module _ (m k : ℕ) where
 
 -- ---- the steps
 
-module _ (value : List ℕ → ℕ) (m k : ℕ) (branches : List Branch) (branch : Branch) (entered : ℕ) where
+module _ (value : List ℕ → ℕ) (m k : ℕ) (branches : List Node) (branch : Node) (entered : ℕ) where
   -- a branch that no winner completes
   pub barren-step : IsBarren value m k branch → IsStep value m k (branches ++ branch ∷ []) entered [] branches entered
   unfolding entries
@@ -142,25 +142,25 @@ module _ (value : List ℕ → ℕ) (m k : ℕ) (branches : List Branch) (branch
       found-step value m k branches branch entered [] are (ap (longer_beginnings m k (length branch.set)) are ∙ longer-none m k (length branch.set))
 
   -- a winner that was found
-  pub whole-step : (committee : List ℕ) → IsBranch m k branch → length branch.set ≡ k → IsWinnerOf value m k branch committee → IsStep value m k (branches ++ branch ∷ []) entered (branch.set ∷ []) branches entered
+  pub whole-step : (committee : List ℕ) → IsBranch m k branch → branch.left ≡ 0 → IsWinnerOf value m k branch committee → IsStep value m k (branches ++ branch ∷ []) entered (branch.set ∷ []) branches entered
   unfolding entries
   whole-step committee is long wins =
       found-step value m k branches branch entered (branch.set ∷ []) (one-winner value m k branch committee is long wins)
-      (ap (λ size. longer_beginnings m k size (winners_of value m k branch)) long ∙ longer-last m k (winners_of value m k branch))
+      (ap (λ size. longer_beginnings m k size (winners_of value m k branch)) (omega (arith, is.size, long)) ∙ longer-last m k (winners_of value m k branch))
 
   -- candidates leave
-  pub left-step : (other : Branch) → other.set ≡ branch.set → winners_of value m k branch ≡ winners_of value m k other → IsStep value m k (branches ++ branch ∷ []) entered [] (branches ++ other ∷ []) entered
+  pub left-step : (other : Node) → other.set ≡ branch.set → winners_of value m k branch ≡ winners_of value m k other → IsStep value m k (branches ++ branch ∷ []) entered [] (branches ++ other ∷ []) entered
   unfolding entries
   left-step other same are =
       same-step value m k branches branch entered other are
       (ap (longer_beginnings m k (length branch.set)) are ∙ ap (λ (set : List ℕ). longer_beginnings m k (length set) (winners_of value m k other)) (sym same))
 
   -- a candidate joins
-  module _ (is : IsBranch m k branch) (short : length branch.set < k) (next : ℕ) (rest : List ℕ) (first : branch.free ≡ next ∷ rest) where
-    abbrev one : Branch
+  module _ (is : IsBranch m k branch) (short : 1 ≤ branch.left) (next : ℕ) (rest : List ℕ) (first : branch.free ≡ next ∷ rest) where
+    abbrev one : Node
     one = joined branch next rest
 
-    abbrev other : Branch
+    abbrev other : Node
     other = passed branch rest
 
     pub joined-step : (committee : List ℕ) → IsWinnerOf value m k one committee → IsStep value m k (branches ++ branch ∷ []) entered [] ((branches ++ other ∷ []) ++ one ∷ []) (entered + 1)
@@ -176,7 +176,7 @@ module _ (value : List ℕ → ℕ) (m k : ℕ) (branches : List Branch) (branch
           longer-apart m k branch.set next (winners_of value m k one) (winners_of value m k other)
               (λ x c. let all = with-begins value m k branch is short next rest first x (wins-from value m k one x c) in (all.0, all.2))
               (λ x c. without-begins value m k branch is short next rest first x (wins-from value m k other x c)),
-          longer-one m k (length branch.set) (winners_of value m k one) one.set short up size (begins committee wins)
+          longer-one m k (length branch.set) (winners_of value m k one) one.set (omega (arith, is.size, short)) up size (begins committee wins)
               (λ front long some. let x = begins-found (winners_of value m k one) front some in
               sym x.2 ∙ (ap (λ n. take n x.0) (long ∙ sym size) ∙ start x.0 (wins-from value m k one x.0 x.1))),
           ap (λ n. longer_beginnings m k n (winners_of value m k one)) size,

@@ -9,7 +9,7 @@ use Rattle.tie_walk.specs.Winners.{best_value, winners}
 use Rattle.tie_search.specs.Alike.{AreClasses, Becomes, done, step}
 use Rattle.tie_search.specs.Asked.{Asked, IsNextAsked, beginnings, begins_some, most_questions}
 use Rattle.tie_search.specs.Steps.Branches.{AreStacked, IsBranch, branches_after, completes, entries, first_branches, left_by, longer_beginnings, to_enter, winners_of}
-use Rattle.tie_search.specs.declared.branch.Branch.{Branch}
+use Rattle.row_multipliers.specs.declared.node.Node.{Node}
 use Rattle.tie_search.specs.Tied.{AreAllBest, AreDistinct, AreTooMany, IsAmong, IsBest}
 
 -- ---- values of two of three candidates, where one voter approves 1 and 2, and one approves 3: with 1 and 2 the second
@@ -151,11 +151,11 @@ one_has_all = record {
 
 -- ---- branches: of two of the candidates 1 to 3, the committee of 2 and 3 wins
 
-from_one : Branch
-from_one = record { set = 1 ∷ []; free = 2 ∷ 3 ∷ [] }
+from_one : Node
+from_one = record { set = 1 ∷ []; free = 2 ∷ 3 ∷ []; left = 1 }
 
-without_one : Branch
-without_one = record { set = []; free = 2 ∷ 3 ∷ [] }
+without_one : Node
+without_one = record { set = []; free = 2 ∷ 3 ∷ []; left = 2 }
 
 one_and_three : completes from_one (1 ∷ 3 ∷ []) ≡ true
 unfolding from_one
@@ -180,7 +180,7 @@ from_one-is = record {
   within = lit≤ tt;
   set_upto = (lit≤ tt, lit≤ tt, tt);
   free_after = (lit≤ tt, lit≤ tt, (lit≤ tt, lit≤ tt, tt));
-  size = lit≤ tt;
+  size = refl;
 }
 
 without_one-is : IsBranch 3 2 without_one
@@ -190,7 +190,7 @@ without_one-is = record {
   within = lit≤ tt;
   set_upto = tt;
   free_after = (lit≤ tt, lit≤ tt, (lit≤ tt, lit≤ tt, tt));
-  size = lit≤ tt;
+  size = refl;
 }
 
 -- the set of 1 has one member more than the empty set
@@ -198,11 +198,11 @@ one_stacked : AreStacked 3 2 0 (without_one ∷ from_one ∷ [])
 unfolding from_one without_one
 one_stacked = (without_one-is, refl, (from_one-is, refl, tt))
 
-all_first : first_branches 3 None ≡ record { set = []; free = 1 ∷ 2 ∷ 3 ∷ [] } ∷ []
+all_first : first_branches 3 2 None ≡ record { set = []; free = 1 ∷ 2 ∷ 3 ∷ []; left = 2 } ∷ []
 all_first = refl
 
 -- after 1 and 2 come the committees without 1, and those of 1 and 3
-after_one_and_two : branches_after 3 [] (1 ∷ 2 ∷ []) ≡ record { set = []; free = 2 ∷ 3 ∷ [] } ∷ record { set = 1 ∷ []; free = 3 ∷ [] } ∷ []
+after_one_and_two : branches_after 3 2 [] (1 ∷ 2 ∷ []) ≡ record { set = []; free = 2 ∷ 3 ∷ []; left = 2 } ∷ record { set = 1 ∷ []; free = 3 ∷ []; left = 1 } ∷ []
 unfolding branches_after
 after_one_and_two = refl
 

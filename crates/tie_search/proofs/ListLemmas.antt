@@ -1,32 +1,32 @@
 -- Lists of the winners that complete a branch.
-use Rattle.std.proofs.Common.{◌≡◌, ℕ, ◌+◌, ◌<◌, ◌≤◌, List, [], Option, None, Some, ap, arith, length, subst, sym}
+use Rattle.std.proofs.Common.{◌≡◌, ℕ, ◌<◌, ◌≤◌, List, [], Option, None, Some, ap, arith, length, subst, sym}
 use Rattle.std.specs.Prelude.{MatchOption, slice_index_or}
 use Rattle.ballot_base.specs.Lists.{IsIncreasing}
 use Rattle.tie_walk.specs.Winners.{best_value}
 use Rattle.tie_search.specs.Alike.{AreClasses, Becomes, HasClasses}
 use Rattle.tie_search.specs.Tied.{AreReaching, IsAmong, IsBest}
 use Rattle.tie_search.specs.Steps.Branches.{AreListedWithin, IsBarren, IsBranch, IsUnsuited, IsWinnerOf}
-use Rattle.tie_search.specs.declared.branch.Branch.{Branch}
+use Rattle.row_multipliers.specs.declared.node.Node.{Node}
 use Rattle.tie_search.specs.declared.branch_list.BranchList.{BranchList}
 use Rattle.tie_search.proofs.BranchLemmas.{completion-from, few-barren, winner-from}
 
 -- no committee completes a branch of no candidates
-pub nothing-within : (value : List ℕ → ℕ) (class : ℕ → List ℕ) (m k : ℕ) (list : BranchList) → 1 ≤ k → list.within.set ≡ [] → list.within.free ≡ [] → length list.winners.items ≡ 0
+pub nothing-within : (value : List ℕ → ℕ) (class : ℕ → List ℕ) (m k : ℕ) (list : BranchList) → 1 ≤ k → list.within.set ≡ [] → list.within.free ≡ [] → list.within.left ≡ k → length list.winners.items ≡ 0
     → AreListedWithin value class m k list
-nothing-within value class m k list some set free none = record {
+nothing-within value class m k list some set free left none = record {
   each = λ committee listed. absurd (omega (arith, listed.1, none));
-  all = λ committee wins. absurd (few-barren value m k list.within empty (omega (arith, some, ap length set, ap length free)) committee wins);
+  all = λ committee wins. absurd (few-barren value m k list.within empty (omega (arith, some, left, ap length free)) committee wins);
 }
   where
     empty : IsBranch m k list.within
-    empty = record { last = 0; within = omega arith; set_upto = rw set tt; free_after = rw free tt; size = omega (arith, ap length set) }
+    empty = record { last = 0; within = omega arith; set_upto = rw set tt; free_after = rw free tt; size = omega (arith, left, ap length set) }
 
 -- the completions of its node that have the highest value are the winners that complete the branch
-pub all-within : (value : List ℕ → ℕ) (class : ℕ → List ℕ) (m k : ℕ) (list : BranchList) (v left : ℕ) → IsBranch m k list.within → length list.within.set + left ≡ k
-    → AreReaching value class m (record { set = list.within.set; value = v; free = list.within.free; left = left }) (best_value value m k) list.winners.items → AreListedWithin value class m k list
-all-within value class m k list v left is size all = record {
-  each = λ committee listed. let reaching = all.each committee listed in (winner-from value m k list.within is left committee size reaching.completes reaching.reaches).best;
-  all = λ committee wins. all.all committee (record { completes = completion-from value m k list.within is left committee size wins; reaches = omega (arith, wins.best.best) });
+pub all-within : (value : List ℕ → ℕ) (class : ℕ → List ℕ) (m k : ℕ) (list : BranchList) → IsBranch m k list.within
+    → AreReaching value class m list.within (best_value value m k) list.winners.items → AreListedWithin value class m k list
+all-within value class m k list is all = record {
+  each = λ committee listed. let reaching = all.each committee listed in (winner-from value m k list.within is committee reaching.completes reaching.reaches).best;
+  all = λ committee wins. all.all committee (record { completes = completion-from value m k list.within is committee wins; reaches = omega (arith, wins.best.best) });
 }
 
 -- a list stays right if only its counts change
@@ -36,7 +36,7 @@ same-within value class m k was now within winners is = record { each = rw winne
 
 -- A committee with the highest value that completes the branch becomes a listed one. So if none of these may become one
 -- that completes it, there is none.
-pub guess-among : (value : List ℕ → ℕ) (class : ℕ → List ℕ) (m k : ℕ) (branch : Branch) (classes : List (List ℕ)) (committees : List (List ℕ)) → IsBranch m k branch → HasClasses m class classes
+pub guess-among : (value : List ℕ → ℕ) (class : ℕ → List ℕ) (m k : ℕ) (branch : Node) (classes : List (List ℕ)) (committees : List (List ℕ)) → IsBranch m k branch → HasClasses m class classes
     → ((c : ℕ) → 1 ≤ c → c ≤ m → IsIncreasing 1 m (class c)) → AreClasses m class → ((committee : List ℕ) → IsAmong committees committee → IsBest value m k committee)
     → ((committee : List ℕ) → IsWinnerOf value m k branch committee → (other : List ℕ) × IsAmong committees other × Becomes m class other committee)
     → (answer : Option (List ℕ)) → MatchOption answer ((i : ℕ) → i < length committees → IsUnsuited branch classes (slice_index_or committees i [])) (IsAmong committees)

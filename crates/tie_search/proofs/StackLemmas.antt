@@ -20,7 +20,7 @@ use Rattle.tie_walk.proofs.StepLemmas.{has_member-range}
 use Rattle.tie_walk.proofs.WinnersLemmas.{same_filter}
 use Rattle.tie_search.specs.Tied.{IsBest}
 use Rattle.tie_search.specs.Steps.Branches.{AreStacked, IsBarren, IsBranch, IsStep, IsWinnerOf, completes, entries, left_by, to_enter, winners_of}
-use Rattle.tie_search.specs.declared.branch.Branch.{Branch}
+use Rattle.row_multipliers.specs.declared.node.Node.{Node}
 use Rattle.tie_search.proofs.BranchLemmas.{joined, passed, split-same, whole-is, with-begins, without-begins}
 use Rattle.row_multipliers.proofs.CompletionLemmas.{member-high, member-low}
 
@@ -87,24 +87,24 @@ module _ (value : List ℕ → ℕ) (m k : ℕ) where
   pub winner-best : (committee : List ℕ) → Contains (winners value m k) committee → IsBest value m k committee
   winner-best committee c = let is = winner-is value m k committee c in record { candidates = is.0; size = is.1; best = is.2 }
 
-  pub wins-from : (branch : Branch) (committee : List ℕ) → Contains (winners_of value m k branch) committee → IsWinnerOf value m k branch committee
+  pub wins-from : (branch : Node) (committee : List ℕ) → Contains (winners_of value m k branch) committee → IsWinnerOf value m k branch committee
   wins-from branch committee c = record {
     best = winner-best committee (Contains-from_filter (completes branch) (winners value m k) committee c);
     whole = passes-from_filter (completes branch) (winners value m k) committee c;
   }
 
-  pub inside-from : (branch : Branch) (committee : List ℕ) → IsWinnerOf value m k branch committee → Contains (winners_of value m k branch) committee
+  pub inside-from : (branch : Node) (committee : List ℕ) → IsWinnerOf value m k branch committee → Contains (winners_of value m k branch) committee
   inside-from branch committee wins =
       Contains-filter (completes branch) (winners value m k) committee (winner-from_is value m k committee (wins.best.candidates, wins.best.size, wins.best.best)) wins.whole
 
-  pub same-winners : (one other : Branch) → ((committee : List ℕ) → IsBest value m k committee → completes one committee ≡ completes other committee) → winners_of value m k one ≡ winners_of value m k other
+  pub same-winners : (one other : Node) → ((committee : List ℕ) → IsBest value m k committee → completes one committee ≡ completes other committee) → winners_of value m k one ≡ winners_of value m k other
   same-winners one other same = same-kept (completes one) (completes other) (winners value m k) (λ committee c. same committee (winner-best committee c))
 
-  pub no-winners : (branch : Branch) → IsBarren value m k branch → winners_of value m k branch ≡ []
+  pub no-winners : (branch : Node) → IsBarren value m k branch → winners_of value m k branch ≡ []
   no-winners branch none = none-kept (completes branch) (winners value m k) (λ committee c whole. none committee (record { best = winner-best committee c; whole = whole }))
 
   -- a set of k that wins is the only one
-  pub one-winner : (branch : Branch) (committee : List ℕ) → IsBranch m k branch → length branch.set ≡ k → IsWinnerOf value m k branch committee → winners_of value m k branch ≡ branch.set ∷ []
+  pub one-winner : (branch : Node) (committee : List ℕ) → IsBranch m k branch → branch.left ≡ 0 → IsWinnerOf value m k branch committee → winners_of value m k branch ≡ branch.set ∷ []
   one-winner branch committee is long wins =
       subst (λ l. winners_of value m k branch ≡ l ∷ []) same (one-kept (completes branch) committee (winners value m k) (winners-order value m k) (Contains-from_filter (completes branch) (winners value m k) committee (inside-from branch committee wins)) wins.whole
       (λ other c whole. whole-is value m k branch is other long (record { best = winner-best other c; whole = whole }) ∙ sym same))
@@ -113,17 +113,17 @@ module _ (value : List ℕ → ℕ) (m k : ℕ) where
       same = whole-is value m k branch is committee long wins
 
   -- all committees complete the branch of all
-  pub all-winners : winners_of value m k (record { set = []; free = range_with_len 1 m }) ≡ winners value m k
-  all-winners = all-kept (completes (record { set = []; free = range_with_len 1 m })) (winners value m k) (λ committee c. whole committee (winner-best committee c))
+  pub all-winners : winners_of value m k (record { set = []; free = range_with_len 1 m; left = k }) ≡ winners value m k
+  all-winners = all-kept (completes (record { set = []; free = range_with_len 1 m; left = k })) (winners value m k) (λ committee c. whole committee (winner-best committee c))
     where
-      whole : (committee : List ℕ) → IsBest value m k committee → completes (record { set = []; free = range_with_len 1 m }) committee ≡ true
+      whole : (committee : List ℕ) → IsBest value m k committee → completes (record { set = []; free = range_with_len 1 m; left = k }) committee ≡ true
       whole committee best =
           all-from (has_member (either_members [] (range_with_len 1 m))) committee
           (λ n here. has_member-either [] (range_with_len 1 m) n
           ∙ has_member-range 1 m n (member-low 1 m committee n best.candidates here) (let high : n ≤ m = member-high 1 m committee n best.candidates here in omega (arith, high)))
 
   -- the winners with the first free candidate come before those without
-  pub joined-winners : (branch : Branch) (is : IsBranch m k branch) (short : length branch.set < k) (next : ℕ) (rest : List ℕ) (first : branch.free ≡ next ∷ rest)
+  pub joined-winners : (branch : Node) (is : IsBranch m k branch) (short : 1 ≤ branch.left) (next : ℕ) (rest : List ℕ) (first : branch.free ≡ next ∷ rest)
       → winners_of value m k branch ≡ winners_of value m k (joined branch next rest) ++ winners_of value m k (passed branch rest)
   joined-winners branch is short next rest first =
       parts-kept (completes branch) (completes (joined branch next rest)) (completes (passed branch rest)) (winners value m k) (winners-order value m k)
@@ -137,31 +137,31 @@ module _ (value : List ℕ → ℕ) (m k : ℕ) where
 
   -- ---- a stack
 
-  pub stack-push : (size : ℕ) (branches : List Branch) (branch : Branch) → AreStacked m k size branches → IsBranch m k branch → length branch.set ≡ size + length branches
+  pub stack-push : (size : ℕ) (branches : List Node) (branch : Node) → AreStacked m k size branches → IsBranch m k branch → length branch.set ≡ size + length branches
       → AreStacked m k size (branches ++ branch ∷ [])
   stack-push size [] branch stacked is long = (is, omega (arith, long), tt)
   stack-push size (first ∷ branches) branch stacked is long = (stacked.0, stacked.1, stack-push (size + 1) branches branch stacked.2 is (omega (arith, long)))
 
-  pub stack-pop : (size : ℕ) (branches : List Branch) (branch : Branch) → AreStacked m k size (branches ++ branch ∷ [])
+  pub stack-pop : (size : ℕ) (branches : List Node) (branch : Node) → AreStacked m k size (branches ++ branch ∷ [])
       → AreStacked m k size branches × IsBranch m k branch × (length branch.set ≡ size + length branches)
   stack-pop size [] branch stacked = (tt, stacked.0, omega (arith, stacked.1))
   stack-pop size (first ∷ branches) branch stacked =
       let rest = stack-pop (size + 1) branches branch stacked.2 in
       ((stacked.0, stacked.1, rest.0), rest.1, omega (arith, rest.2))
 
-  left-last : (branches : List Branch) (branch : Branch) → left_by value m k (branches ++ branch ∷ []) ≡ winners_of value m k branch ++ left_by value m k branches
+  left-last : (branches : List Node) (branch : Node) → left_by value m k (branches ++ branch ∷ []) ≡ winners_of value m k branch ++ left_by value m k branches
   unfolding left_by
   left-last [] branch = sym (append-nil (winners_of value m k branch))
   left-last (first ∷ branches) branch =
       ap (λ l. l ++ winners_of value m k first) (left-last branches branch) ∙ append_assoc (winners_of value m k branch) (left_by value m k branches) (winners_of value m k first)
 
-  enter-last : (branches : List Branch) (branch : Branch) → to_enter value m k (branches ++ branch ∷ []) ≡ to_enter value m k branches + entries value m k branch
+  enter-last : (branches : List Node) (branch : Node) → to_enter value m k (branches ++ branch ∷ []) ≡ to_enter value m k branches + entries value m k branch
   unfolding to_enter
   enter-last branches branch = omega (arith, sum_by-append (entries value m k) branches (branch ∷ []))
 
   -- ---- steps
 
-  module _ (branches : List Branch) (branch : Branch) (entered : ℕ) where
+  module _ (branches : List Node) (branch : Node) (entered : ℕ) where
     -- the winners of the last branch are found
     pub found-step : (found : List (List ℕ)) → winners_of value m k branch ≡ found → entries value m k branch ≡ 0 → IsStep value m k (branches ++ branch ∷ []) entered found branches entered
     found-step found are none = record {
@@ -171,7 +171,7 @@ module _ (value : List ℕ → ℕ) (m k : ℕ) where
     }
 
     -- the last branch changes
-    pub same-step : (other : Branch) → winners_of value m k branch ≡ winners_of value m k other → entries value m k branch ≡ entries value m k other
+    pub same-step : (other : Node) → winners_of value m k branch ≡ winners_of value m k other → entries value m k branch ≡ entries value m k other
         → IsStep value m k (branches ++ branch ∷ []) entered [] (branches ++ other ∷ []) entered
     same-step other are same = record {
       left = left-last branches branch ∙ (ap (λ l. l ++ left_by value m k branches) are ∙ sym (left-last branches other));
@@ -180,7 +180,7 @@ module _ (value : List ℕ → ℕ) (m k : ℕ) where
     }
 
     -- the last branch becomes two, and a set is entered
-    pub two-step : (one other : Branch) → winners_of value m k branch ≡ winners_of value m k one ++ winners_of value m k other
+    pub two-step : (one other : Node) → winners_of value m k branch ≡ winners_of value m k one ++ winners_of value m k other
         → entries value m k branch ≡ entries value m k one + 1 + entries value m k other
         → IsStep value m k (branches ++ branch ∷ []) entered [] ((branches ++ other ∷ []) ++ one ∷ []) (entered + 1)
     two-step one other are sum = record {
@@ -192,7 +192,7 @@ module _ (value : List ℕ → ℕ) (m k : ℕ) where
       counted = omega (arith, enter-last branches branch, enter-last branches other, enter-last (branches ++ other ∷ []) one, sum);
     }
 
-  pub then-step : (a b c : List Branch) (l n r : ℕ) (found more : List (List ℕ)) → IsStep value m k a l found b n → IsStep value m k b n more c r → IsStep value m k a l (found ++ more) c r
+  pub then-step : (a b c : List Node) (l n r : ℕ) (found more : List (List ℕ)) → IsStep value m k a l found b n → IsStep value m k b n more c r → IsStep value m k a l (found ++ more) c r
   then-step a b c l n r found more one other = record {
     left = one.left ∙ (ap (λ rest. found ++ rest) other.left ∙ sym (append_assoc found more (left_by value m k c)));
     rises = omega (arith, one.rises, other.rises);

@@ -13,17 +13,17 @@ ghost use Rattle.ballot_base.specs.Lists.{IsIncreasing};
 ghost use Rattle.tie_search.specs.Steps.Branches.{AreAskedIn, IsAskingIn, IsOnTheWayIn, IsStepFrom, IsStepIn};
 ghost use Rattle.tie_search.specs.Steps.Branches.{AreListedIn, IsOracle, first_branches};
 
-use crate::branch::Branch;
 use crate::branch_list::BranchList;
 use crate::oracle::Oracle;
 use crate::searchable::Searchable;
 use arrayvec::ArrayVec;
 use ballot_base::{CandSet, PLACES};
+use row_multipliers::Node;
 
 /// The committees with the highest value that are still to come.
 #[derive(Drop)]
 pub(crate) struct Asking {
-    branches: ArrayVec<Branch, PLACES>,
+    branches: ArrayVec<Node, PLACES>,
     // The committee with the highest value that was found last.
     found: CandSet,
     // The number of sets that were entered.
@@ -35,16 +35,16 @@ pub(crate) struct Asking {
 impl Asking {
     /// The winners later than the start, or all winners if there is no start. `found` is one of the winners. Nothing
     /// was asked yet.
-    pub(crate) fn begin(after: &Option<CandSet>, m: u8, found: CandSet) -> Asking
+    pub(crate) fn begin(after: &Option<CandSet>, m: u8, k: u8, found: CandSet) -> Asking
         requires most { m ≤ most_candidates }
         requires start { MatchOption after.now ⊤ (IsIncreasing 1 m) }
-        ensures branches { result.branches.items ≡ first_branches m after.now }
+        ensures branches { result.branches.items ≡ first_branches m k after.now }
         ensures found { result.found ≡ found }
         ensures entered { result.entered ≡ 0 }
         ensures asked { result.asked ≡ 0 }
     {
         Asking {
-            branches: first_branches(after, m),
+            branches: first_branches(after, m, k),
             found,
             entered: 0,
             asked: 0,
@@ -94,7 +94,7 @@ impl Asking {
         &mut self,
         oracle: &Oracle<S>,
         list: &mut BranchList,
-        mut branch: Branch,
+        mut branch: Node,
     ) -> CandSet
         requires knows { IsOracle S.value_of S.class_of S.candidates oracle.now }
         requires listed { AreListedIn S.value_of S.class_of S.candidates oracle.now list.old }
@@ -105,15 +105,16 @@ impl Asking {
         ensures rises { self.old.asked ≤ self.new.asked }
         ensures asked { self.new.asked ≤ self.old.asked + length branch.free }
     {
-        while branch.set.len() < oracle.k {
+        while branch.left > 0 {
             let Some(parts) = branch.free.split_first() else {
                 return branch.set;
             };
             let (next, others) = parts;
             branch.free = others;
-            let with = Branch {
+            let with = Node {
                 set: branch.set.with(next),
                 free: others,
+                left: branch.left - 1,
             };
             if let Some(winner) = list.ask(oracle, &with, self.found, &mut self.asked) {
                 self.found = winner;
@@ -129,25 +130,27 @@ impl Asking {
     }
 }
 
-/// The branches that exactly the committees later than the start complete, or all committees if there is no start.
-fn first_branches(after: &Option<CandSet>, m: u8) -> ArrayVec<Branch, PLACES>
+/// The branches that exactly the committees of `k` later than the start complete, or all of them if there is no start.
+fn first_branches(after: &Option<CandSet>, m: u8, k: u8) -> ArrayVec<Node, PLACES>
     requires most { m ≤ most_candidates }
     requires start { MatchOption after.now ⊤ (IsIncreasing 1 m) }
-    ensures { result.items ≡ first_branches m after.now }
+    ensures { result.items ≡ first_branches m k after.now }
 {
     let mut branches = ArrayVec::new();
     let mut set = CandSet::empty();
     let Some(start) = after else {
-        branches.push(Branch {
+        branches.push(Node {
             set,
             free: CandSet::all(m),
+            left: k,
         });
         return branches;
     };
     for member in start.members() {
-        branches.push(Branch {
+        branches.push(Node {
             set,
             free: CandSet::after(member, m),
+            left: k.saturating_sub(set.len()),
         });
         set = set.with(member);
     }

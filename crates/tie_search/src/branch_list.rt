@@ -5,7 +5,7 @@
 ghost use Rattle.std.specs.Prelude.{◌≡◌, ◌+◌, ◌≤◌, [], length};
 ghost use Rattle.tie_search.specs.Steps.Branches.{AreListedIn, IsAnswerIn, IsBestIn, IsBranchIn, IsGuessIn, IsOracle};
 
-use crate::branch::Branch;
+use crate::branch::{completes, is_within, suited};
 use crate::found::{Committees, Tied};
 use crate::oracle::Oracle;
 use crate::searchable::Searchable;
@@ -27,7 +27,7 @@ const MOST_DUE: u8 = 16;
 /// The winners that complete a branch, up to exchanges of clones.
 #[derive(Drop)]
 pub(crate) struct BranchList {
-    pub(crate) within: Branch,
+    pub(crate) within: Node,
     pub(crate) winners: Committees,
     // A branch with more seats left is not listed.
     most_left: u8,
@@ -39,16 +39,18 @@ pub(crate) struct BranchList {
 }
 
 impl BranchList {
-    /// Nothing is listed yet: no committee completes the branch.
-    pub(crate) fn nothing() -> BranchList
+    /// Nothing is listed yet: no committee of `k` completes the branch.
+    pub(crate) fn nothing(k: u8) -> BranchList
         ensures set { result.within.set ≡ [] }
         ensures free { result.within.free ≡ [] }
+        ensures left { result.within.left ≡ k }
         ensures none { length result.winners.items ≡ 0 }
     {
         BranchList {
-            within: Branch {
+            within: Node {
                 set: CandSet::empty(),
                 free: CandSet::empty(),
+                left: k,
             },
             winners: ArrayVec::new(),
             most_left: FEW_SEATS,
@@ -62,7 +64,7 @@ impl BranchList {
     pub(crate) fn ask<S: Searchable>(
         &mut self,
         oracle: &Oracle<S>,
-        branch: &Branch,
+        branch: &Node,
         found: CandSet,
         asked: &mut u128,
     ) -> Option<CandSet>
@@ -83,31 +85,28 @@ impl BranchList {
     }
 
     /// Counts a question. Returns whether the branch is to be listed first: any answer works.
-    fn is_due<S: Searchable>(&mut self, oracle: &Oracle<S>, branch: &Branch) -> bool
+    fn is_due<S: Searchable>(&mut self, oracle: &Oracle<S>, branch: &Node) -> bool
         requires listed { AreListedIn S.value_of S.class_of S.candidates oracle.now self.old }
         ensures listed { AreListedIn S.value_of S.class_of S.candidates oracle.now self.new }
     {
         self.questions = self.questions.saturating_add(1);
         let are_many = self.questions > FEW_QUESTIONS;
-        let left = oracle.k.saturating_sub(branch.set.len());
+        let left = branch.left;
         let is_small = 1 < left && left <= self.most_left && left < branch.free.len();
-        is_small && are_many && matches!(oracle.tied, Tied::Known(_)) && !self.within.has(branch)
+        is_small
+            && are_many
+            && matches!(oracle.tied, Tied::Known(_))
+            && !is_within(branch, &self.within)
     }
 
     /// Lists the winners that complete the branch, if the search does. Otherwise the list stays.
-    fn fill<S: Searchable>(&mut self, oracle: &Oracle<S>, branch: &Branch)
+    fn fill<S: Searchable>(&mut self, oracle: &Oracle<S>, branch: &Node)
         requires knows { IsOracle S.value_of S.class_of S.candidates oracle.now }
         requires branch { IsBranchIn S.candidates oracle.now branch.now }
         requires listed { AreListedIn S.value_of S.class_of S.candidates oracle.now self.old }
         ensures listed { AreListedIn S.value_of S.class_of S.candidates oracle.now self.new }
     {
-        let node = Node {
-            set: branch.set,
-            value: oracle.search.value(branch.set),
-            free: branch.free,
-            left: oracle.k - branch.set.len(),
-        };
-        match oracle.search.completions(&node, oracle.value) {
+        match oracle.search.completions(branch, oracle.value) {
             Some(winners) => {
                 self.within = *branch;
                 self.winners = winners;
@@ -144,7 +143,7 @@ impl BranchList {
     fn like<S: Searchable>(
         &self,
         oracle: &Oracle<S>,
-        branch: &Branch,
+        branch: &Node,
         found: CandSet,
     ) -> Option<CandSet>
         requires branch { IsBranchIn S.candidates oracle.now branch.now }
@@ -152,9 +151,9 @@ impl BranchList {
         requires listed { AreListedIn S.value_of S.class_of S.candidates oracle.now self.now }
         ensures { IsGuessIn S.value_of S.candidates oracle.now branch.now result }
     {
-        if branch.is_completed_by(found) || !self.within.has(branch) {
+        if completes(branch, found) || !is_within(branch, &self.within) {
             return Some(found);
         }
-        branch.suited(oracle.search.clones(), &self.winners)
+        suited(branch, oracle.search.clones(), &self.winners)
     }
 }

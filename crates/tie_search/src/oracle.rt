@@ -14,7 +14,7 @@ ghost use Rattle.tie_walk.specs.Winners.{best_value};
 ghost use Rattle.tie_search.specs.Tied.{AreBest};
 ghost use Rattle.tie_search.specs.Steps.Branches.{IsAnswerIn, IsBestIn, IsBranchIn, IsGuessIn, IsOracle};
 
-use crate::branch::Branch;
+use crate::branch::{completes, exchanged, first_committee, suited};
 use crate::found::Tied;
 use crate::searchable::Searchable;
 use ballot_base::CandSet;
@@ -34,7 +34,7 @@ pub(crate) struct Oracle<S: Searchable> {
 impl<S: Searchable> Oracle<S> {
     /// Asks for a committee with the highest value that completes the branch; `found` is any with this value. A search
     /// is made, and `asked` counts it, only if nothing cheaper decides.
-    pub(crate) fn ask(&self, branch: &Branch, found: CandSet, asked: &mut u128) -> Option<CandSet>
+    pub(crate) fn ask(&self, branch: &Node, found: CandSet, asked: &mut u128) -> Option<CandSet>
         requires knows { IsOracle S.value_of S.class_of S.candidates self.now }
         requires branch { IsBranchIn S.candidates self.now branch.now }
         requires found { IsBestIn S.value_of S.candidates self.now found }
@@ -42,45 +42,39 @@ impl<S: Searchable> Oracle<S> {
         ensures rises { asked.old ≤ asked.new }
         ensures asked { asked.new ≤ asked.old + 1 }
     {
-        if branch.set.len() + branch.free.len() < self.k {
+        if branch.free.len() < branch.left {
             return None;
         }
-        if branch.is_completed_by(found) {
+        if completes(branch, found) {
             return Some(found);
         }
         let like = self.like(branch, found)?;
-        if branch.is_completed_by(like) {
+        if completes(branch, like) {
             return Some(like);
         }
-        if branch.set.len() == self.k {
+        if branch.left == 0 {
             return (self.search.value(branch.set) >= self.value).then_some(branch.set);
         }
-        let made = branch.exchanged(self.search.clones(), like);
+        let made = exchanged(branch, self.search.clones(), like);
         if self.wins(branch, made) {
             return Some(made);
         }
-        let first = branch.first(self.k);
+        let first = first_committee(branch);
         if self.wins(branch, first) {
             return Some(first);
         }
         // No other step searches.
         *asked = asked.saturating_add(1);
-        let node = Node {
-            set: branch.set,
-            value: self.search.value(branch.set),
-            free: branch.free,
-            left: self.k - branch.set.len(),
-        };
-        self.search.find(&node, self.value)
+        self.search.find(branch, self.value)
     }
 
     /// Whether a set is a committee with the highest value that completes the branch.
-    fn wins(&self, branch: &Branch, set: CandSet) -> bool
+    fn wins(&self, branch: &Node, set: CandSet) -> bool
         requires knows { IsOracle S.value_of S.class_of S.candidates self.now }
         requires branch { IsBranchIn S.candidates self.now branch.now }
         ensures { result ≡ true → IsAnswerIn S.value_of S.candidates self.now branch.now (Some set) }
     {
-        if set.len() != self.k || !branch.is_completed_by(set) {
+        if set.len() != self.k || !completes(branch, set) {
             return false;
         }
         self.search.value(set) >= self.value
@@ -88,14 +82,14 @@ impl<S: Searchable> Oracle<S> {
 
     /// A committee with the highest value that may complete the branch: a listed one if all are listed, and otherwise
     /// `found`. Returns `None` only if no committee with the highest value completes the branch.
-    fn like(&self, branch: &Branch, found: CandSet) -> Option<CandSet>
+    fn like(&self, branch: &Node, found: CandSet) -> Option<CandSet>
         requires knows { IsOracle S.value_of S.class_of S.candidates self.now }
         requires branch { IsBranchIn S.candidates self.now branch.now }
         requires found { IsBestIn S.value_of S.candidates self.now found }
         ensures { IsGuessIn S.value_of S.candidates self.now branch.now result }
     {
         match &self.tied {
-            Tied::Listed(winners) => branch.suited(self.search.clones(), winners),
+            Tied::Listed(winners) => suited(branch, self.search.clones(), winners),
             Tied::Known(_) => Some(found),
         }
     }
@@ -124,7 +118,6 @@ fn best_committee<S: Searchable>(search: &S, k: u8) -> CandSet
 {
     let all = Node {
         set: CandSet::empty(),
-        value: search.value(CandSet::empty()),
         free: CandSet::all(search.m()),
         left: k,
     };

@@ -37,7 +37,6 @@ pub trait Searchable: WithClones {
     /// Finds a committee that completes a node and whose value is at least `least`. Returns `None` if there is none.
     fn find(&self, node: &Node, least: u128) -> Option<CandSet>
         requires is_node { IsNode (Self.candidates self.now) node.now.set node.now.free }
-        requires value { node.now.value ≡ Self.value_of self.now node.now.set }
         ensures { Finds (Self.value_of self.now) (Self.candidates self.now) node.now least result };
 
     /// Lists the committees of `k` with the highest value, each once, or returns one of them if there are more than
@@ -54,7 +53,6 @@ pub trait Searchable: WithClones {
     /// not looked for, as it would take too long.
     fn completions(&self, node: &Node, least: u128) -> Option<Committees>
         requires is_node { IsNode (Self.candidates self.now) node.now.set node.now.free }
-        requires value { node.now.value ≡ Self.value_of self.now node.now.set }
         ensures { MatchOption result ⊤ (λ committees. AreReaching (Self.value_of self.now) (Self.class_of self.now)
             (Self.candidates self.now) node.now least committees.items) }
     {

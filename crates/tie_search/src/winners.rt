@@ -61,8 +61,8 @@ impl<S: Searchable> SearchWinners<S> {
         let tied = best_committees(&search, k);
         let found = tied.first();
         SearchWinners {
-            asking: Asking::begin(&after, m, found),
-            list: BranchList::nothing(),
+            asking: Asking::begin(&after, m, k, found),
+            list: BranchList::nothing(k),
             oracle: Oracle {
                 value: search.value(found),
                 search,

@@ -92,7 +92,7 @@ overlap-sum overlap rows i j =
     filter-sum (λ (r : Row). r.1 * overlap r) (λ (r : Row). has_member r.0 j) (supporters rows i)
     ∙ filter-sum (λ (r : Row). cond (has_member r.0 j) (r.1 * overlap r) 0) (λ (r : Row). has_member r.0 i) rows
 
-triple-sum : (triple : Row → ℕ) (rows : List Row) (i j l : ℕ)
+pub triple-sum : (triple : Row → ℕ) (rows : List Row) (i j l : ℕ)
     → all_triples triple rows i j l ≡ sum_by (λ (r : Row). part (has_member r.0 i) (has_member r.0 j) (has_member r.0 l) (r.1 * triple r)) rows
 triple-sum triple rows i j l =
     overlap-sum triple (supporters rows i) j l

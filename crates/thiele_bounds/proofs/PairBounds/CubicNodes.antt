@@ -1,5 +1,5 @@
 -- What the totals of triples say of a set.
-use Rattle.std.proofs.Common.{◌≡◌, ℕ, ◌+◌, ◌-◌, ◌*◌, ◌/◌, ◌≤◌, true, List, ap, arith, max, min, sum_by, get_or}
+use Rattle.std.proofs.Common.{◌≡◌, ℕ, ◌+◌, ◌-◌, ◌*◌, ◌≤◌, true, List, ap, arith, sum_by, get_or}
 use Rattle.std.specs.Prelude.{slice_index}
 use Rattle.std.specs.List.{AllByRecursion}
 use Rattle.std.proofs.Math.Nat.{mul-le-mul_left}
@@ -13,11 +13,12 @@ use Rattle.row_multipliers.specs.declared.node.Node.{Node}
 use Rattle.thiele_bounds.specs.Pairs.{all_constants, all_overlap, all_worth}
 use Rattle.thiele_bounds.specs.Triples.{all_triples, sum_of_one, sum_of_pairs, sum_of_triples, sum_of_two}
 use Rattle.thiele_bounds.specs.Steps.Cubics.{row_constant, row_overlap, row_triple, row_worth}
-use Rattle.thiele_bounds.specs.Steps.Paired.{AreSums, overlap_at, pair_place}
+use Rattle.thiele_bounds.specs.Steps.Paired.{AreSums, overlap_at}
 use Rattle.thiele_bounds.specs.Steps.Threes.{AreCubics, AreRaised, IsSumOfOne, three_at}
 use Rattle.thiele_bounds.specs.declared.pairs.Totals.{Totals}
 use Rattle.row_multipliers.proofs.CompletionLemmas.{added-free, added-increasing, added-size, member-high, without-is}
 use Rattle.thiele_bounds.proofs.PairBounds.CubicLemmas.{choose, chosen, cubics-are}
+use Rattle.thiele_bounds.proofs.PairBounds.OverlapLemmas.{place-turned}
 use Rattle.thiele_bounds.proofs.PairBounds.PairLemmas.{sum-equal, sum-less}
 use Rattle.thiele_bounds.proofs.PairBounds.PairNodes.{units-low}
 use Rattle.thiele_bounds.proofs.PairBounds.TripleLemmas.{triples-bound}
@@ -27,12 +28,6 @@ use Rattle.thiele_bounds.proofs.PairBounds.TripleSums.{threes-bound}
 record Thresholds : Type 0 where
   third : ℕ → ℕ
   second : ℕ
-
-place-turned : (i j : ℕ) → pair_place i j ≡ pair_place j i
-place-turned i j =
-    let high : max i j ≡ max j i = omega arith in
-    let low : min i j ≡ min j i = omega arith in
-    omega (arith, ap (λ n. n * (n + 1) / 2) high, low)
 
 module _ (weights sums : List ℕ) (scale unit m shift : ℕ) (rows : List Row) (node : Node) (totals : Totals) (is_node : IsNode m node.set node.free) (size : m ≤ most_candidates) (are : AreSums weights scale unit sums)
     (ups : AllByRecursion (λ (row : Row). IsIncreasing 1 m row.0) rows) (cubics : AreCubics sums shift rows node totals.constant totals.worths totals.overlaps) (least needed raise : ℕ) (raised : AreRaised totals node.left raise)

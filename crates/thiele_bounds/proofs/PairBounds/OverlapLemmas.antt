@@ -1,5 +1,5 @@
 -- Tables of pairs, and what a ballot adds to them.
-use Rattle.std.proofs.Common.{◌≡◌, ℕ, ◌+◌, ◌*◌, ◌<◌, ◌≤◌, ◌==◌, ◌&&◌, ◌∙◌, ◌⊎◌, Bool, true, false, cond, List, ◌∷◌, refl, sym, ap, subst, arith, inl, inr, length, max, min, get_or, set, nat_le}
+use Rattle.std.proofs.Common.{◌≡◌, ℕ, ◌+◌, ◌*◌, ◌/◌, ◌<◌, ◌≤◌, ◌==◌, ◌&&◌, ◌∙◌, ◌⊎◌, Bool, true, false, cond, List, ◌∷◌, refl, sym, ap, subst, arith, inl, inr, length, max, min, get_or, set, nat_le}
 use Rattle.std.proofs.Math.Nat.{mul-le-mul}
 use Rattle.std.proofs.lemmas.Bool.{cases_eq, cases_lt, eq-eqb, le-leb, ne_eqb}
 use Rattle.std.proofs.lemmas.List.{get_or-set_same, get_or-set_other}
@@ -51,10 +51,10 @@ portion-pair has i j amount = elim (cases_lt i j) [
 -- ---- places
 
 -- a row more
-triangle-next : (n : ℕ) → triangle (n + 1) ≡ triangle n + n + 1
+pub triangle-next : (n : ℕ) → triangle (n + 1) ≡ triangle n + n + 1
 triangle-next n = omega arith
 
-triangle-rises : (a b : ℕ) → a ≤ b → triangle a ≤ triangle b
+pub triangle-rises : (a b : ℕ) → a ≤ b → triangle a ≤ triangle b
 triangle-rises a b low =
     let product : a * (a + 1) ≤ b * (b + 1) = mul-le-mul low (let next : a + 1 ≤ b + 1 = omega (arith, low) in next) in
     omega (arith, product)
@@ -73,7 +73,7 @@ row-apart : (row other column : ℕ) (P : Type 0) → row < other → column ≤
 row-apart row other column P less few last same = absurd (omega (arith, triangle-rises (row + 1) other (omega (arith, less)), triangle-next row, few, same))
 
 -- the place of a pair tells its candidates
-place-row : (row column other last : ℕ) → column ≤ row → last ≤ other → triangle row + column ≡ triangle other + last → row ≡ other
+pub place-row : (row column other last : ℕ) → column ≤ row → last ≤ other → triangle row + column ≡ triangle other + last → row ≡ other
 place-row row column other last few less same = elim (cases_lt row other) [
   | inl low ↦ row-apart row other column (row ≡ other) low few last same
   | inr high ↦ elim (cases_lt other row) [
@@ -81,6 +81,13 @@ place-row row column other last few less same = elim (cases_lt row other) [
     | inr most ↦ omega (arith, high, most)
   ]
 ]
+
+-- the place of a pair in either order
+pub place-turned : (i j : ℕ) → pair_place i j ≡ pair_place j i
+place-turned i j =
+    let high : max i j ≡ max j i = omega arith in
+    let low : min i j ≡ min j i = omega arith in
+    omega (arith, ap (λ n. n * (n + 1) / 2) high, low)
 
 module _ (left rest : List ℕ) (first : ℕ) (is : left ≡ first ∷ rest) (up : IsIncreasing 1 most_candidates left) where
   module _ (before after : List ℕ) (v : ℕ) (is_set : (n : ℕ) → get_or after n 0 ≡ cond (n == first) v (get_or before n 0)) where

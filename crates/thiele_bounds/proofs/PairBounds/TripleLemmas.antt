@@ -1,18 +1,18 @@
 -- Triples of members.
-use Rattle.std.proofs.Common.{◌≡◌, ℕ, ◌+◌, ◌-◌, ◌*◌, ◌≤◌, ◌==◌, ◌∙◌, Bool, true, false, not, cond, List, [], ◌∷◌, refl, ap, arith, min, sum, sum_by, take}
+use Rattle.std.proofs.Common.{◌≡◌, ℕ, ◌+◌, ◌-◌, ◌*◌, ◌≤◌, ◌==◌, ◌&&◌, ◌∙◌, Bool, true, false, not, cond, List, [], ◌∷◌, refl, sym, ap, arith, min, sum, sum_by, take}
 use Rattle.std.specs.List.{AllByRecursion}
 use Rattle.std.proofs.Math.Nat.{mul-le-mul_left}
 use Rattle.std.proofs.lemmas.List.Sums.{sum_by-cons}
 use Rattle.ballot_base.specs.Lists.{IsIncreasing}
 use Rattle.ballot_base.specs.CandSet.{has_member, common_members, without_member}
 use Rattle.ballot_base.specs.Ballots.{Row, hits}
-use Rattle.ballot_base.proofs.Increasing.{IsIncreasing-filter}
+use Rattle.ballot_base.proofs.Increasing.{IsIncreasing-filter, same_increasing}
 use Rattle.tie_walk.specs.Sequences.{supporters}
 use Rattle.tie_walk.specs.Values.{thiele_value}
 use Rattle.row_multipliers.specs.Completions.{IsNode, IsCompletion}
 use Rattle.thiele_bounds.specs.Pairs.{all_constants, all_worth, all_overlap}
 use Rattle.thiele_bounds.specs.Triples.{IsCubicMajorant, all_triples, sum_of_pairs, sum_of_triples}
-use Rattle.row_multipliers.proofs.CompletionLemmas.{added-increasing}
+use Rattle.row_multipliers.proofs.CompletionLemmas.{added-increasing, member-without}
 use Rattle.thiele_bounds.proofs.PairBounds.PairLemmas.{hits-few, hits-joined, hits-sum, overlap-cons, sum-apart, sum-equal, sum-more, worth-cons}
 
 -- how many members a ballot has
@@ -25,6 +25,18 @@ part p q r n = cond p (cond q (cond r n 0) 0) 0
 
 pub rest-rises : (m i : ℕ) (xs : List ℕ) → IsIncreasing 1 m xs → IsIncreasing 1 m (without_member xs i)
 rest-rises m i xs up = IsIncreasing-filter (λ x. not (x == i)) 1 m xs up
+
+-- two members may be left out in either order
+pub rests-turned : (m : ℕ) (xs : List ℕ) → IsIncreasing 1 m xs → (i j : ℕ) → without_member (without_member xs i) j ≡ without_member (without_member xs j) i
+rests-turned m xs up i j = same_increasing 1 m (without_member (without_member xs i) j) (without_member (without_member xs j) i) (rest-rises m j (without_member xs i) (rest-rises m i xs up)) (rest-rises m i (without_member xs j) (rest-rises m j xs up))
+    (λ n. member-without (without_member xs i) j n ∙ ap (λ b. not (n == j) && b) (member-without xs i n) ∙ turned (not (n == j)) (not (n == i)) (has_member xs n)
+    ∙ sym (member-without (without_member xs j) i n ∙ ap (λ b. not (n == i) && b) (member-without xs j n)))
+  where
+    turned : (p r s : Bool) → (p && (r && s)) ≡ (r && (p && s))
+    turned true true s = refl
+    turned true false s = refl
+    turned false true s = refl
+    turned false false s = refl
 
 -- pairs of a ballot count more by the same
 pub of-pairs-more : (f g : ℕ → ℕ → ℕ) (has : ℕ → Bool) (more m : ℕ) (xs : List ℕ) → IsIncreasing 1 m xs

@@ -4,12 +4,12 @@ use Rattle.std.proofs.lemmas.Bool.{cases_eq, eq-eqb, ne_eqb}
 use Rattle.std.proofs.lemmas.List.Sums.{sum_by-cons}
 use Rattle.ballot_base.specs.Lists.{IsIncreasing}
 use Rattle.ballot_base.specs.CandSet.{has_member, without_member}
-use Rattle.ballot_base.proofs.Increasing.{has_member_head, same_increasing}
+use Rattle.ballot_base.proofs.Increasing.{has_member_head}
 use Rattle.thiele_bounds.specs.Triples.{sum_of_one, sum_of_pairs, sum_of_triples, sum_of_two, threshold_sum, worth_of_three}
 use Rattle.row_multipliers.proofs.CompletionLemmas.{member-without}
 use Rattle.row_multipliers.proofs.SearchLemmas.{sum-among, sum-threshold}
 use Rattle.thiele_bounds.proofs.PairBounds.PairLemmas.{or-true, sum-apart, sum-equal, sum-less}
-use Rattle.thiele_bounds.proofs.PairBounds.TripleLemmas.{rest-rises}
+use Rattle.thiele_bounds.proofs.PairBounds.TripleLemmas.{rest-rises, rests-turned}
 
 ones-length : (xs : List ℕ) → sum_by (λ n. 1) xs ≡ length xs
 ones-length [] = refl
@@ -122,15 +122,7 @@ module _ (worth : ℕ → ℕ) (overlap : ℕ → ℕ → ℕ) (triple c : ℕ �
   own i = sum_by (overlap i) (rest i)
 
   rests-same : (i j : ℕ) → without_member (rest i) j ≡ without_member (rest j) i
-  rests-same i j = same_increasing 1 m (without_member (rest i) j) (without_member (rest j) i) (rest-rises m j (rest i) (rest-rises m i members up)) (rest-rises m i (rest j) (rest-rises m j members up))
-      (λ n. member-without (rest i) j n ∙ ap (λ b. not (n == j) && b) (member-without members i n) ∙ turned (not (n == j)) (not (n == i)) (has_member members n)
-      ∙ sym (member-without (rest j) i n ∙ ap (λ b. not (n == i) && b) (member-without members j n)))
-    where
-      turned : (p r s : Bool) → (p && (r && s)) ≡ (r && (p && s))
-      turned true true s = refl
-      turned true false s = refl
-      turned false true s = refl
-      turned false false s = refl
+  rests-same i j = rests-turned m members up i j
 
   -- over the third member
   thirds : (i j : ℕ) → has_member members i ≡ true → has_member (rest i) j ≡ true

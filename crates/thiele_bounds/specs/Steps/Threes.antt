@@ -9,10 +9,11 @@ use Rattle.thiele_bounds.specs.Pairs.{all_constants, all_overlap, all_worth}
 use Rattle.thiele_bounds.specs.Triples.{all_triples, sum_of_one, sum_of_two, threshold_sum, worth_of_three}
 use Rattle.thiele_bounds.specs.Steps.Cubics.{bend_at, row_constant, row_overlap, row_triple, row_worth, touch_of}
 use Rattle.thiele_bounds.specs.Steps.Paired.{overlap_at}
+use Rattle.thiele_bounds.specs.Steps.Places.{HasRoom, word_at, word_of}
 use Rattle.thiele_bounds.specs.Steps.Totals.{AreSmall}
 use Rattle.thiele_bounds.specs.declared.pairs.Totals.{Totals}
 use Rattle.thiele_bounds.specs.declared.triples.Bends.{Bends}
-use Rattle.thiele_bounds.specs.declared.triples.Plane.{Plane}
+use Rattle.thiele_bounds.specs.declared.triples.Threes.{Threes}
 
 -- the totals are those of the rows' cubics
 pub record AreCubics (sums : List ℕ) (shift : ℕ) (rows : List Row) (node : Node) (constant : ℕ)
@@ -23,11 +24,11 @@ pub record AreCubics (sums : List ℕ) (shift : ℕ) (rows : List Row) (node : N
   pub overlaps_are : (i j : ℕ) → has_member node.free i ≡ true → has_member node.free j ≡ true
       → overlap_at table i j ≡ all_overlap (row_overlap sums shift node.set node.free node.left) rows i j
 
--- the triples of the rows' cubics with the candidate i
-abbrev pub AreTriples : List ℕ → ℕ → List Row → Node → ℕ → List ℕ → Type 0
-AreTriples sums shift rows node i table = (j l : ℕ) → has_member (without_member node.free i) j ≡ true
-    → has_member (without_member node.free i) l ≡ true
-    → overlap_at table j l ≡ all_triples (row_triple sums shift node.set node.free node.left) rows i j l
+-- the triples of the rows' cubics
+abbrev pub AreTriples : List ℕ → ℕ → List Row → Node → List ℕ → Type 0
+AreTriples sums shift rows node table = (z y x : ℕ) → x < y → y < z
+    → has_member node.free z ≡ true → has_member node.free y ≡ true → has_member node.free x ≡ true
+    → word_at table z y x ≡ all_triples (row_triple sums shift node.set node.free node.left) rows z y x
 
 -- where cubics at a node are exact first, and their triples
 pub record AreBends (sums : List ℕ) (shift : ℕ) (node : Node) (bends : Bends) : Type 0 where
@@ -55,16 +56,15 @@ pub record AreRaised (totals : Totals) (left raise : ℕ) : Type 0 where
       → (left - 1) * (overlap_at totals.overlaps i j + overlap_at totals.overlaps i l + overlap_at totals.overlaps j l)
       ≤ raise
 
--- a free candidate, and worths that are raised
-pub record IsPlane (plane : Plane) : Type 0 where
-  pub raised : AreRaised plane.totals.now plane.node.now.left plane.raise
-  pub candidates : IsIncreasing 1 most_candidates plane.node.now.free
-  pub member : has_member plane.node.now.free plane.i ≡ true
+-- worths that are raised, and a table of triples that is long enough
+pub record AreThrees (threes : Threes) : Type 0 where
+  pub raised : AreRaised threes.totals.now threes.node.now.left threes.raise
+  pub candidates : IsIncreasing 1 most_candidates threes.node.now.free
+  pub room : HasRoom threes.node.now.free threes.triples.now
 
--- the worth of three, in a plane
-abbrev pub plane_three : Plane → ℕ → ℕ → ℕ → ℕ
-plane_three plane =
-    three_at plane.totals.now (λ i. overlap_at plane.triples.now) plane.node.now.left plane.raise
+-- the worth of three
+abbrev pub three_of : Threes → ℕ → ℕ → ℕ → ℕ
+three_of threes = three_at threes.totals.now (word_of threes.triples.now) threes.node.now.left threes.raise
 
 -- how many units of worths of three a unit of the rounded ones has
 abbrev pub roughly : ℕ
@@ -74,10 +74,20 @@ roughly = 2 ^ 30
 abbrev pub most_rough : ℕ
 most_rough = 2 ^ 55
 
--- at least the worth of each of the others with the candidate and j
-abbrev pub AreThree : Plane → ℕ → List ℕ → Type 0
-AreThree plane j worths = (l : ℕ) → has_member (without_member (without_member plane.node.now.free plane.i) j) l ≡ true
-    → plane_three plane plane.i j l ≤ roughly * slice_index worths l
+-- at least the worth of each of the others with i and j
+abbrev pub AreThree : Threes → ℕ → ℕ → List ℕ → Type 0
+AreThree threes i j worths = (l : ℕ) → has_member (without_member (without_member threes.node.now.free i) j) l ≡ true
+    → three_of threes i j l ≤ roughly * slice_index worths l
+
+-- rounded, at least a sum of two, by some threshold
+abbrev pub IsSumOfTwo : Threes → ℕ → ℕ → ℕ → Type 0
+IsSumOfTwo threes i j sum = (third : ℕ)
+    × (sum_of_two (three_of threes) threes.node.now.free threes.node.now.left (λ i j. third) i j ≤ roughly * sum)
+
+-- the sums of all two free candidates
+abbrev pub AreTwos : Threes → List ℕ → Type 0
+AreTwos threes twos = (i j : ℕ) → has_member threes.node.now.free i ≡ true → has_member threes.node.now.free j ≡ true
+    → j < i → IsSumOfTwo threes i j (overlap_at twos i j)
 
 -- a bound on the sum of the worths of `count` of the candidates, by some threshold
 abbrev pub IsBound : List ℕ → List ℕ → ℕ → ℕ → Type 0

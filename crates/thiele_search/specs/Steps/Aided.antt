@@ -1,9 +1,12 @@
 -- The aids of a search under a Thiele rule.
-use Rattle.std.specs.Prelude.{◌≡◌, ℕ, ◌*◌, ◌≤◌, List, Option, MatchOption, ⊤}
+use Rattle.std.specs.Prelude.{◌≡◌, ℕ, ◌*◌, ◌≤◌, true, List, Option, MatchOption, ⊤, slice_index}
 use Rattle.ballot_base.specs.Ballots.{IsElection, voter_count}
+use Rattle.ballot_base.specs.CandSet.{has_member}
 use Rattle.ballot_base.specs.Clones.{AreClones}
 use Rattle.ballot_base.specs.Increments.{increments}
 use Rattle.ballot_base.specs.Limits.{most_members}
+use Rattle.tie_search.specs.declared.descent.Plan.{Plan}
+use Rattle.tie_walk.specs.Sequences.{gain}
 use Rattle.tie_walk.specs.Values.{Thiele, tally_value}
 use Rattle.thiele_search.specs.declared.columns.Columns.{Columns}
 use Rattle.thiele_bounds.specs.declared.majorant.HitSums.{HitSums}
@@ -19,6 +22,12 @@ pub record IsValued (tally : Thiele) (set : List ℕ) (value : ℕ) : Type 0 whe
   pub election : IsElection tally.election
   pub size : tally.k ≤ most_members
   pub value_is : value ≡ tally_value tally set
+
+-- what a search knows at a set: its value, and what each candidate that can join adds to it
+pub record IsGainPlan (tally : Thiele) (set : List ℕ) (plan : Plan) : Type 0 where
+  pub valued : IsValued tally set plan.value
+  pub gains : (n : ℕ) → has_member plan.eligible n ≡ true
+      → slice_index plan.worths n ≡ gain (increments tally.rule tally.k) tally.election.rows set n
 
 -- the columns are those of the election, if they are kept
 abbrev pub KeepsColumns : {A : Type 0} → Thiele → Option (Columns A) → Type 0

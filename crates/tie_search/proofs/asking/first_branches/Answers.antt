@@ -5,7 +5,7 @@ use Rattle.ballot_base.specs.Lists.{IsIncreasing}
 use Rattle.ballot_base.proofs.Committees.{length-increasing}
 use Rattle.ballot_base.proofs.Increasing.{with_member-above}
 use Rattle.tie_search.specs.Steps.Branches.{branches_after, first_branches}
-use Rattle.tie_search.specs.declared.branch.Branch.{Branch}
+use Rattle.row_multipliers.specs.declared.node.Node.{Node}
 use Rattle.tie_search.proofs.StartLemmas.{after-next, after-none, front-under}
 use Rattle.tie_search.proofs.asking.first_branches.Goals as goal
 use Rattle.tie_search.proofs.asking.first_branches.Goals.{In-Some-member}
@@ -53,15 +53,15 @@ loop-member-preserved c =
     let m = c.args.m in
     let steps = c.in-Some-member.ensures.steps in
     let parts = under (goal.at.loop-member-preserved c).In-Some-member in
-    let branch : Branch = record { set = set; free = range_with_len (n + 1) (m - n) } in
+    let branch : Node = record { set = set; free = range_with_len (n + 1) (m - n); left = c.args.k - length set } in
     let grown : c.with-set.result ≡ set ++ n ∷ [] = c.with-set.ensures ∙ with_member-above 1 (n - 1) set n parts.0 (omega (arith, parts.1)) in
-    rw (c.push-in-loop-member.ensures.items, c.after.ensures, grown) record {
-      made = after-next m set rest n items (first_branches m c.args.after.now) (ap (λ l. items ++ branches_after m set l) (sym steps) ∙ c.loop-member.invariant.made);
+    rw (c.push-in-loop-member.ensures.items, c.after.ensures, c.saturating_sub.ensures, c.len.ensures.count, grown) record {
+      made = after-next m c.args.k set rest n items (first_branches m c.args.k c.args.after.now) (ap (λ l. items ++ branches_after m c.args.k set l) (sym steps) ∙ c.loop-member.invariant.made);
       start = ap Some (append_assoc set (n ∷ []) rest) ∙ (ap (λ l. Some (set ++ l)) (sym steps) ∙ c.loop-member.invariant.start);
       size = omega (arith, c.loop-member.invariant.size, length-append items (branch ∷ []), length-append set (n ∷ []));
     }
 
 pub returns : goal.returns
 returns c =
-    after-none c.args.m c.loop-member.set c.loop-member.branches.items (first_branches c.args.m c.args.after.now)
-    (ap (λ l. c.loop-member.branches.items ++ branches_after c.args.m c.loop-member.set l) (sym c.in-None.ensures.steps.0) ∙ c.loop-member.invariant.made)
+    after-none c.args.m c.args.k c.loop-member.set c.loop-member.branches.items (first_branches c.args.m c.args.k c.args.after.now)
+    (ap (λ l. c.loop-member.branches.items ++ branches_after c.args.m c.args.k c.loop-member.set l) (sym c.in-None.ensures.steps.0) ∙ c.loop-member.invariant.made)

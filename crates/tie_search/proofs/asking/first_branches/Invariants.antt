@@ -4,7 +4,7 @@ use Rattle.tie_search.proofs.asking.first_branches.Given as goal
 
 abbrev pub invariant-loop-member : goal.invariant-loop-member
 invariant-loop-member l = record {
-  made : l.branches.items ++ branches_after l.m l.set l.member-iterator ≡ first_branches l.m l.fn.after;
+  made : l.branches.items ++ branches_after l.m l.k l.set l.member-iterator ≡ first_branches l.m l.k l.fn.after;
   start : Some (l.set ++ l.member-iterator) ≡ l.fn.after;
   size : length l.branches.items ≡ length l.set;
 }

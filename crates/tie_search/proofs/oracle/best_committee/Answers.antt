@@ -30,12 +30,12 @@ loop-value-init g c =
     let begun = begun g (goal.at.loop-value-init g c).After-unwrap_or-best in
     record { candidates = begun.0; size = begun.1; value = c.value-value.ensures }
 
-pub find-requires-clause-is_node : goal.find-requires-clause-is_node
-find-requires-clause-is_node g c =
+pub find-requires : goal.find-requires
+find-requires g c =
     let m = g.S.Tally.candidates c.args.search.now in
     let up : IsIncreasing 1 m c.all.result = rw (c.all.ensures, c.m.ensures.value) (IsIncreasing-range 1 m m (omega arith)) in
     let is_node : IsNode m [] c.all.result = record { set_within = tt; free_within = up; apart = λ n is. refl } in
-    rw c.empty.ensures is_node
+    record { is_node = rw c.empty.ensures is_node }
 
 pub returns-in_default-clause-best : goal.returns-in_default-clause-best
 returns-in_default-clause-best g c =
@@ -59,6 +59,6 @@ pub returns-clause-best : goal.returns-clause-best
 returns-clause-best g c =
     let value = g.S.Tally.value_of c.args.search.now in
     let m = g.S.Tally.candidates c.args.search.now in
-    let most : IsBound value m 0 [] c.args.k c.bound-most.result = rw c.empty-3.ensures at c.bound-most.ensures.law in
+    let most : IsBound value m 0 [] c.args.k c.bound-most.result = rw c.empty-2.ensures at c.bound-most.ensures.law in
     best-found value m c.args.k c.loop-value.best c.requires.fits c.loop-value.invariant.candidates c.loop-value.invariant.size
     (λ other up size. let low : value other ≤ c.bound-most.result = most other up size in omega (arith, low, c.loop-value-test.false, c.loop-value.invariant.value))

@@ -22,10 +22,10 @@ first g c =
     (rw c.self.view_is at c.in_ok-free.ensures))
 
 -- what the weighted needs say of these
-pays : (g : _) (c : After-eligible g) → IsConstraint (closeness c.args.self.now.m c.args.self.now.rows) c.args.self.now.m record { set = c.args.node.now.set; value = c.args.node.now.value; free = c.in_ok-free.free; left = c.args.node.now.left } c.args.least c.constraint-needs.result
+pays : (g : _) (c : After-eligible g) → IsConstraint (closeness c.args.self.now.m c.args.self.now.rows) c.args.self.now.m record { set = c.args.node.now.set; free = c.in_ok-free.free; left = c.args.node.now.left } c.args.least c.constraint-needs.result
 pays g c = rw (least-is g c) at (rw c.self.view_is at c.constraint-needs.ensures.constraint)
 
-second : (g : _) (c : After-eligible g) → Narrows (closeness c.args.self.now.m c.args.self.now.rows) c.args.self.now.m record { set = c.args.node.now.set; value = c.args.node.now.value; free = c.in_ok-free.free; left = c.args.node.now.left } c.args.least c.eligible.result
+second : (g : _) (c : After-eligible g) → Narrows (closeness c.args.self.now.m c.args.self.now.rows) c.args.self.now.m record { set = c.args.node.now.set; free = c.in_ok-free.free; left = c.args.node.now.left } c.args.least c.eligible.result
 second g c =
     let e = c.args.self.now in
     c.eligible.ensures (closeness e.m e.rows) e.m c.args.least (rw c.self.view_is at c.self.invariant.0).most (first g c).is_node (pays g c)

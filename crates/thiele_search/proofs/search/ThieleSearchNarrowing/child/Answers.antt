@@ -1,4 +1,4 @@
-use Rattle.std.proofs.Common.{◌≡◌, ℕ, ◌+◌, ◌-◌, ◌≤◌, true, List, Option, None, Some, refl, arith, get_or}
+use Rattle.std.proofs.Common.{◌≡◌, ℕ, ◌-◌, ◌≤◌, true, List, Option, None, Some, refl, arith, get_or}
 use Rattle.std.specs.Option.{MatchOption, unwrap_or}
 use Rattle.ballot_base.specs.CandSet.{has_member, with_member, without_member}
 use Rattle.ballot_base.specs.Increments.{increments}
@@ -10,49 +10,26 @@ use Rattle.row_multipliers.specs.Steps.Narrowed.{IsNarrowed}
 use Rattle.row_multipliers.proofs.CompletionLemmas.{member-high, member-low, node-with, without-is}
 use Rattle.thiele_search.proofs.WholeLemmas.{thiele-same}
 use Rattle.row_multipliers.proofs.NarrowedLemmas.{narrowed-empty}
-use Rattle.thiele_search.proofs.GainLemmas.{gain-falls, gain-same, valued-more, valued-small}
-use Rattle.thiele_search.specs.Steps.Aided.{IsValued}
+use Rattle.thiele_search.proofs.GainLemmas.{gain-falls, gain-same}
 use Rattle.thiele_search.proofs.search.ThieleSearchNarrowing.child.Goals as goal
-use Rattle.thiele_search.proofs.search.ThieleSearchNarrowing.child.Goals.{After-of}
 
 pub with-requires-clause-low : goal.with-requires-clause-low
-with-requires-clause-low g c = member-low 1 c.args.self.now.election.m c.args.node.now.free c.args.next c.requires.node.is_node.free_within c.requires.next
+with-requires-clause-low g c = member-low 1 c.args.self.now.election.m c.args.node.now.free c.args.next c.requires.is_node.free_within c.requires.next
 
 pub with-requires-clause-high : goal.with-requires-clause-high
 with-requires-clause-high g c =
     omega (
       arith,
-      c.requires.node.valued.election.most,
-      member-high 1 c.args.self.now.election.m c.args.node.now.free c.args.next c.requires.node.is_node.free_within c.requires.next,
-    )
-
-pub of-requires : goal.of-requires
-of-requires g c =
-    omega (
-      arith,
-      c.requires.node.valued.election.most,
-      member-high 1 c.args.self.now.election.m c.args.node.now.free c.args.next c.requires.node.is_node.free_within c.requires.next,
-    )
-
--- the value after the candidate has joined
-joined : (g : _) (c : After-of g) → IsValued c.args.self.now (with_member c.args.node.now.set c.args.next) (c.args.node.now.value + c.of.result)
-joined g c =
-    let node = c.args.node.now in
-    valued-more c.args.self.now node.set node.free c.args.plan.now.worths node.value c.args.next c.of.result c.requires.node.valued c.requires.node.is_node c.requires.next (λ n is. c.requires.plan.is_plan n (c.requires.plan.among n is)) c.of.ensures.value
-
-pub overflow_add-child : goal.overflow_add-child
-overflow_add-child g c =
-    omega (
-      arith,
-      valued-small c.args.self.now (with_member c.args.node.now.set c.args.next) (c.args.node.now.value + c.of.result) (joined g (goal.at.overflow_add-child g c).After-of),
+      c.requires.plan.is_plan.valued.election.most,
+      member-high 1 c.args.self.now.election.m c.args.node.now.free c.args.next c.requires.is_node.free_within c.requires.next,
     )
 
 pub promising-promising-requires-clause-is_node : goal.promising-promising-requires-clause-is_node
 promising-promising-requires-clause-is_node g c =
-    rw (c.with.ensures, c.without.ensures) (node-with c.args.self.now.election.m c.args.node.now.set c.args.node.now.free c.args.next c.requires.node.is_node c.requires.next)
+    rw (c.with.ensures, c.without.ensures) (node-with c.args.self.now.election.m c.args.node.now.set c.args.node.now.free c.args.next c.requires.is_node c.requires.next)
 
 pub promising-promising-requires-clause-valued : goal.promising-promising-requires-clause-valued
-promising-promising-requires-clause-valued g c = rw c.with.ensures (joined g (goal.at.promising-promising-requires-clause-valued g c).After-of)
+promising-promising-requires-clause-valued g c = rw c.with.ensures c.child_value-value.ensures
 
 pub promising-promising-requires-clause-gains : goal.promising-promising-requires-clause-gains
 promising-promising-requires-clause-gains g c n is =
@@ -60,9 +37,9 @@ promising-promising-requires-clause-gains g c n is =
     let node = c.args.node.now in
     let here : has_member node.free n ≡ true = without-is node.free c.args.next n (rw c.without.ensures at is) in
     let before : gain_at (tally_value tally) node.set n ≤ get_or c.args.plan.now.worths n 0 =
-    gain-same tally node.set node.free c.args.plan.now.worths c.requires.node.valued.election c.requires.node.is_node (λ x in_. c.requires.plan.is_plan x (c.requires.plan.among x in_)) n here in
+    gain-same tally node.set node.free c.args.plan.now.worths c.requires.plan.is_plan.valued.election c.requires.is_node (λ x in_. c.requires.plan.is_plan.gains x (c.requires.plan.among x in_)) n here in
     let falls : gain_at (tally_value tally) (with_member node.set c.args.next) n ≤ gain_at (tally_value tally) node.set n =
-    gain-falls (tally_value tally) (thiele_rule-submodular tally.rule tally.k tally.election.rows c.requires.node.valued.size) (thiele-same (increments tally.rule tally.k) tally.election.rows) node.set c.args.next n in
+    gain-falls (tally_value tally) (thiele_rule-submodular tally.rule tally.k tally.election.rows c.requires.plan.is_plan.valued.size) (thiele-same (increments tally.rule tally.k) tally.election.rows) node.set c.args.next n in
     rw c.with.ensures (omega (arith, before, falls))
 
 -- what narrows, or the default if nothing is left
@@ -70,8 +47,8 @@ by-default : (answer : Option (List ℕ)) (default : List ℕ) (Out : Type 0) (I
 by-default None default Out Is out empty = empty out
 by-default (Some kept) default Out Is is empty = is
 
-pub returns-clause-child : goal.returns-clause-child
-returns-clause-child g c =
+pub returns : goal.returns
+returns g c =
     let tally = c.args.self.now in
     let node = c.args.node.now in
     let V = tally_value tally in
@@ -79,7 +56,7 @@ returns-clause-child g c =
     let set = with_member node.set c.args.next in
     let free = without_member node.free c.args.next in
     let least = c.args.plan.now.least in
-    let is_node : IsNode m set free = node-with m node.set node.free c.args.next c.requires.node.is_node c.requires.next in
+    let is_node : IsNode m set free = node-with m node.set node.free c.args.next c.requires.is_node c.requires.next in
     record {
       set = c.with.ensures;
       left = refl;
@@ -87,6 +64,3 @@ returns-clause-child g c =
           (rw (c.with.ensures, c.without.ensures) at c.promising-promising.ensures)
           (λ out. rw c.empty.ensures (narrowed-empty V m set free (node.left - 1) least is_node out)));
     }
-
-pub returns-clause-valued : goal.returns-clause-valued
-returns-clause-valued g c = rw c.with.ensures (joined g (goal.at.returns-clause-valued g c).After-of)

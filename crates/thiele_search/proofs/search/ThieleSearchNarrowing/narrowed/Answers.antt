@@ -4,5 +4,5 @@ use Rattle.thiele_search.proofs.search.ThieleSearchNarrowing.narrowed.Goals as g
 pub promising-requires-clause-gains : goal.promising-requires-clause-gains
 promising-requires-clause-gains g c =
     let t = c.args.self.now in
-    gain-same t c.args.node.now.set c.args.node.now.free c.args.plan.now.worths c.requires.node.valued.election c.requires.node.is_node
-    (λ n is. c.requires.plan.is_plan n (c.requires.plan.among n is))
+    gain-same t c.args.node.now.set c.args.node.now.free c.args.plan.now.worths c.requires.plan.is_plan.valued.election c.requires.is_node
+    (λ n is. c.requires.plan.is_plan.gains n (c.requires.plan.among n is))

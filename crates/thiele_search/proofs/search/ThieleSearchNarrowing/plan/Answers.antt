@@ -13,15 +13,15 @@ first : (g : _) (c : After-members_for g)
 first g c = c.in_ok-free.ensures
 
 -- and by the gains
-second : (g : _) (c : After-members_for g) → Narrows (tally_value c.args.self.now) c.args.self.now.election.m record { set = c.args.node.now.set; value = c.args.node.now.value; free = c.in_ok-free.free; left = c.args.node.now.left } c.args.least c.members_for.result
+second : (g : _) (c : After-members_for g) → Narrows (tally_value c.args.self.now) c.args.self.now.election.m record { set = c.args.node.now.set; free = c.in_ok-free.free; left = c.args.node.now.left } c.args.least c.members_for.result
 second g c =
     let tally = c.args.self.now in
     let node = c.args.node.now in
     let free = c.in_ok-free.free in
     let gains = c.gains_at-gains.result in
-    let valued = c.requires.node.valued in
+    let valued = c.requires.valued in
     let is_node = (first g c).is_node in
-    gains-narrow tally node.set free node.left c.args.least node.value gains valued is_node (gain-same tally node.set free gains valued.election is_node c.gains_at-gains.ensures)
+    gains-narrow tally node.set free node.left c.args.least c.args.value gains valued is_node (gain-same tally node.set free gains valued.election is_node c.gains_at-gains.ensures)
     c.saturating_sub-due.result c.saturating_sub-due.ensures c.members_for.result c.members_for.ensures
 
 pub returns-in_err-eligible : goal.returns-in_err-eligible
@@ -43,6 +43,6 @@ returns g c =
     let both : IsNarrowed V m node.set node.free node.left c.args.least eligible = narrowed-more V m node.set node.free free node.left c.args.least (first g at) eligible fewer in (
       both,
       narrowed-choice V m node.set node.free eligible node.left c.args.least both eligible (choice-of_all V m node.set eligible node.left c.args.least both.is_node c.requires.some),
-      (λ n is. c.gains_at-gains.ensures n (fewer.among n is)),
+      record { valued = c.requires.valued; gains = λ n is. c.gains_at-gains.ensures n (fewer.among n is) },
       refl,
     )

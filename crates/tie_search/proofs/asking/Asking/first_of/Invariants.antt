@@ -2,8 +2,8 @@ use Rattle.std.proofs.Common.{◌+◌, ◌≤◌, ◌∷◌, ◌++◌, [], lengt
 use Rattle.tie_search.specs.Steps.Branches.{AreListedWithin, IsOnTheWay, IsStep}
 use Rattle.tie_search.proofs.asking.Asking.first_of.Given as goal
 
-abbrev pub invariant-loop-parts : goal.invariant-loop-parts
-invariant-loop-parts g l =
+abbrev pub invariant-loop-branch : goal.invariant-loop-branch
+invariant-loop-branch g l =
     let value = g.S.Tally.value_of l.oracle.search in
     let m = g.S.Tally.candidates l.oracle.search in
     record {
@@ -14,5 +14,5 @@ invariant-loop-parts g l =
       asked : l.self.asked + length l.branch.free ≤ l.fn.self.asked + length l.fn.branch.free;
     }
 
-abbrev pub decreases-loop-parts : goal.decreases-loop-parts
-decreases-loop-parts g l = length l.branch.free
+abbrev pub decreases-loop-branch : goal.decreases-loop-branch
+decreases-loop-branch g l = length l.branch.free

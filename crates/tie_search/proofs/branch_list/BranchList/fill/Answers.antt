@@ -1,14 +1,10 @@
-use Rattle.std.proofs.Common.{arith, ◌-◌}
 use Rattle.tie_search.specs.declared.branch_list.BranchList.{BranchList}
 use Rattle.tie_search.proofs.BranchLemmas.{branch-node}
 use Rattle.tie_search.proofs.ListLemmas.{all-within, same-within}
 use Rattle.tie_search.proofs.branch_list.BranchList.fill.Goals as goal
 
-pub value-requires : goal.value-requires
-value-requires g c = (branch-node (g.S.Tally.candidates c.args.oracle.now.search) c.args.oracle.now.k c.args.branch.now c.requires.branch).set_within
-
-pub completions-requires-clause-is_node : goal.completions-requires-clause-is_node
-completions-requires-clause-is_node g c = branch-node (g.S.Tally.candidates c.args.oracle.now.search) c.args.oracle.now.k c.args.branch.now c.requires.branch
+pub completions-requires : goal.completions-requires
+completions-requires g c = record { is_node = branch-node (g.S.Tally.candidates c.args.oracle.now.search) c.args.oracle.now.k c.args.branch.now c.requires.branch }
 
 pub returns-in-Some : goal.returns-in-Some
 returns-in-Some g c =
@@ -19,7 +15,7 @@ returns-in-Some g c =
     let made : BranchList = record { within = c.args.branch.now; winners = c.in-Some.winners; most_left = 0; due = 0; found = 0; questions = 0 } in
     record {
       listed = same-within value class m oracle.k made c.note_found.new.self c.note_found.ensures.within c.note_found.ensures.winners
-          (all-within value class m oracle.k made c.value.result (oracle.k - c.len.result) c.requires.branch (omega (arith, c.len.ensures.count, c.requires.branch.size)) (rw c.requires.knows.best_is at c.in-Some.ensures));
+          (all-within value class m oracle.k made c.requires.branch (rw c.requires.knows.best_is at c.in-Some.ensures));
     }
 
 pub returns-in-None : goal.returns-in-None

@@ -30,7 +30,7 @@ is-begun : (g : Over) (c : After-value g) → IsBegun (g.S.Tally.value_of c.args
 is-begun g c =
     let few = rw c.m-m.ensures.value at c.m-m.ensures.most in
     begun-from (g.S.Tally.value_of c.args.search) (g.S.Tally.candidates c.args.search) c.args.k c.args.after c.begin.result c.requires.some c.requires.fits few c.requires.start
-    (c.begin.ensures.branches ∙ ap (λ m. first_branches m c.args.after) c.m-m.ensures.value) c.begin.ensures.entered c.begin.ensures.asked (rw c.begin.ensures.found (first-is g c))
+    (c.begin.ensures.branches ∙ ap (λ m. first_branches m c.args.k c.args.after) c.m-m.ensures.value) c.begin.ensures.entered c.begin.ensures.asked (rw c.begin.ensures.found (first-is g c))
 
 pub invariant_of-result : goal.invariant_of-result
 invariant_of-result g c =
@@ -43,7 +43,7 @@ invariant_of-result g c =
       best_is = c.value.ensures ∙ (first-is g c).best;
       listed = c.best_committees-tied.ensures;
     } in
-    record { knows = knows; asking_is = is.asking_is; counted = is.counted; listed = nothing-within (g.S.Tally.value_of c.args.search) (g.S.WithClones.class_of c.args.search) (g.S.Tally.candidates c.args.search) c.args.k c.nothing.result c.requires.some c.nothing.ensures.set c.nothing.ensures.free c.nothing.ensures.none }
+    record { knows = knows; asking_is = is.asking_is; counted = is.counted; listed = nothing-within (g.S.Tally.value_of c.args.search) (g.S.WithClones.class_of c.args.search) (g.S.Tally.candidates c.args.search) c.args.k c.nothing.result c.requires.some c.nothing.ensures.set c.nothing.ensures.free c.nothing.ensures.left c.nothing.ensures.none }
 
 pub returns-clause-left : goal.returns-clause-left
 returns-clause-left g c = (is-begun g c).left

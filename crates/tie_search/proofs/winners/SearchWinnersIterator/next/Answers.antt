@@ -6,7 +6,7 @@ use Rattle.tie_search.specs.Steps.Branches.{AreAskedIn, AreListedIn, IsAskingIn,
 use Rattle.tie_search.specs.declared.asking.Asking.{Asking}
 use Rattle.tie_search.specs.declared.oracle.Oracle.{Oracle}
 use Rattle.tie_search.specs.declared.branch_list.BranchList.{BranchList}
-use Rattle.tie_search.specs.declared.branch.Branch.{Branch}
+use Rattle.row_multipliers.specs.declared.node.Node.{Node}
 use Rattle.tie_search.proofs.winners.SearchWinnersIterator.next.Goals as goal
 
 -- the first of two lists, or none where both are empty
@@ -16,7 +16,7 @@ first-of from None to is end = (is ∙ end refl, end refl)
 first-of from (Some set) to is end = is
 
 -- no branches leave nothing
-nothing-left : (value : List ℕ → ℕ) (m k : ℕ) (branches : List Branch) → branches ≡ [] → (left_by value m k branches ≡ []) × (to_enter value m k branches ≡ 0)
+nothing-left : (value : List ℕ → ℕ) (m k : ℕ) (branches : List Node) → branches ≡ [] → (left_by value m k branches ≡ []) × (to_enter value m k branches ≡ 0)
 unfolding left_by to_enter
 nothing-left value m k branches none = rw none (refl, refl)
 

@@ -1,0 +1,40 @@
+//! What bounds cost, in visits to a set, and where they are worth trying. Any numbers work.
+use ballot_base::ThieleRule;
+use row_multipliers::payoff::Limits;
+
+/// Of moved multipliers, and of triples. Of 500 random voters, or of noisy parties, many nodes end by neither.
+pub(crate) const RARE: Limits = Limits {
+    lost_share: 64,
+    margin: 3,
+};
+
+/// The cost of counting pairs at a node, with 500 as with 5,000 different ballots.
+pub(crate) const PAIRS: u64 = 20;
+
+/// About how many rounds move the multipliers of a node.
+const FIRST_ROUNDS: u64 = 6;
+
+/// The cost of a round that moves multipliers. With many ballots a visit takes longer, too. Under `cc` it takes less,
+/// since it counts first hits only.
+pub(crate) fn round(rows: usize, rule: ThieleRule) -> u64 {
+    let (rows_per_visit, most) = if rule == ThieleRule::Cc {
+        (48, 12)
+    } else {
+        (128, 6)
+    };
+    most.min(rows.div_ceil(rows_per_visit) as u64)
+}
+
+/// The cost of moving multipliers at a node, about.
+pub(crate) fn moves(rows: usize, rule: ThieleRule) -> u64 {
+    round(rows, rule).saturating_mul(FIRST_ROUNDS)
+}
+
+/// The cost of counting triples: a pass over the ballots, and a bound for each pair of the free candidates, with each
+/// of the others. A visit takes longer with many ballots too.
+pub(crate) fn triples(rows: usize, free: u8) -> u64 {
+    let free = u64::from(free);
+    let rows = rows as u64;
+    free.saturating_mul(rows.saturating_add(4 * free * free))
+        / rows.saturating_mul(2).saturating_add(120)
+}
