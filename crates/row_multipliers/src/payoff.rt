@@ -18,14 +18,14 @@ use std::marker::Model;
 const LEFT_ALONE: u32 = 16;
 
 /// The number of nodes, for a number of seats left, whose work below has to be known.
-const FEWEST_KNOWN: u64 = 4;
+const FEWEST_KNOWN: u32 = 4;
 
 /// The part of the saved work that makes up for lost work: less work was saved than measured, since a bound ends the
-/// nodes with little work below first. With an eighth, candidates on a circle took half as long again under `geom4`.
+/// nodes with little work below first. With an eighth, candidates on a circle took 1.37 times as long under `geom4`.
 const MADE_UP: u64 = 4;
 
 /// A node that ended is this many parts of success.
-const PARTS: u64 = 1024;
+const PARTS: u32 = 1024;
 
 /// What a bound is taken to achieve before it was made: as if it had ended some nodes.
 const HOPED: Mean = Mean {
@@ -105,7 +105,7 @@ impl Payoff {
             return false;
         };
         let level = level.get();
-        let cost = level.cost.value;
+        let cost = u64::from(level.cost.value);
         let lost = self.lost.get().saturating_add(cost);
         lost <= self.done.get() / self.limits.lost_share.max(1)
             && level.nodes % LEFT_ALONE != 0
@@ -127,7 +127,7 @@ impl Payoff {
     {
         self.work(work);
         if let Some(level) = self.levels.get(usize::from(node.left)) {
-            let saved = level.get().below.value;
+            let saved = u64::from(level.get().below.value);
             self.lost.update(|lost| match answer {
                 Some(_) => lost.saturating_add(work),
                 None => lost.saturating_sub(saved / MADE_UP),
@@ -168,12 +168,12 @@ impl Level {
         if self.below.count < FEWEST_KNOWN {
             return 0;
         }
-        self.below.value
+        u64::from(self.below.value)
     }
 
     /// The work that the bound saves on average, if there is this much below a node.
     fn saved(self, below: u64) -> u64 {
-        self.success.value.saturating_mul(below) / PARTS
+        below.saturating_mul(u64::from(self.success.value)) / u64::from(PARTS)
     }
 
     /// Ends the count of the work below a node. A count of an earlier search ends without a number.
@@ -202,7 +202,7 @@ impl Level {
     /// bound does not end has more work below it than most.
     fn noted(self, ended: bool, work: u64) -> Level {
         Level {
-            success: self.success.with(if ended { PARTS } else { 0 }),
+            success: self.success.with(if ended { u64::from(PARTS) } else { 0 }),
             cost: self.cost.with(work),
             open: None,
             ..self
@@ -211,14 +211,14 @@ impl Level {
 }
 
 /// About how many of the last numbers a mean is of, so that old ones are forgotten.
-const MEMORY: u64 = 50;
+const MEMORY: u32 = 50;
 
-/// A running mean.
+/// A running mean, up to `u32::MAX`. There is one for each number of seats left in each copy of a search on the stack.
 #[derive(Clone, Copy)]
 struct Mean {
     // The count of its numbers, up to 50.
-    count: u64,
-    value: u64,
+    count: u32,
+    value: u32,
 }
 
 impl Mean {
@@ -228,10 +228,11 @@ impl Mean {
     /// The mean once a number has come. Old numbers are forgotten.
     fn with(self, number: u64) -> Mean {
         let count = MEMORY.min(self.count.saturating_add(1));
-        let others = self.value.saturating_mul(count.saturating_sub(1));
+        let others = u64::from(self.value).saturating_mul(u64::from(count.saturating_sub(1)));
+        let value = others.saturating_add(number) / u64::from(count);
         Mean {
             count,
-            value: others.saturating_add(number) / count,
+            value: value.min(u64::from(u32::MAX)) as u32,
         }
     }
 }
