@@ -56,6 +56,8 @@ pub struct Payoff {
     // The work that was lost on the bound, less a part of what it saved.
     lost: Cell<u64>,
     levels: [Cell<Level>; LEVELS],
+    // No count is open of the work below a node with fewer seats left than this.
+    lowest: Cell<u8>,
 }
 
 impl Model for Payoff {
@@ -72,6 +74,7 @@ impl Payoff {
             done: Cell::new(0),
             lost: Cell::new(0),
             levels: array::from_fn(|_| Cell::new(Level::first(cost))),
+            lowest: Cell::new(0),
         }
     }
 
@@ -91,7 +94,8 @@ impl Payoff {
     /// seats left or fewer was below the earlier node.
     pub fn enter(&self, left: u8) {
         let done = self.done.get();
-        for level in self.levels.iter().take(usize::from(left) + 1) {
+        let lowest = usize::from(self.lowest.replace(left));
+        for level in self.levels.iter().take(usize::from(left) + 1).skip(lowest) {
             level.update(|level| level.closed(done));
         }
         if let Some(level) = self.levels.get(usize::from(left)) {
