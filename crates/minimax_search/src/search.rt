@@ -88,14 +88,6 @@ impl<A: Allocator + Copy> Narrowing for MinimaxSearch<'_, A> {
         plan.worths.members_for(node.free, node.left, plan.due)
     }
 
-    fn child(&self, _plan: &Plan, node: &Node, next: u8) -> Node {
-        Node {
-            set: node.set.with(next),
-            free: node.free.without(next),
-            left: node.left - 1,
-        }
-    }
-
     fn child_value(&self, _plan: &Plan, _node: &Node, _next: u8) -> u128 {
         0
     }

@@ -95,8 +95,10 @@ impl Payoff {
     pub fn enter(&self, left: u8) {
         let done = self.done.get();
         let lowest = usize::from(self.lowest.replace(left));
-        for level in self.levels.iter().take(usize::from(left) + 1).skip(lowest) {
-            level.update(|level| level.closed(done));
+        if let Some(open) = self.levels.get(lowest..usize::from(left) + 1) {
+            for level in open {
+                level.update(|level| level.closed(done));
+            }
         }
         if let Some(level) = self.levels.get(usize::from(left)) {
             level.update(|level| level.entered(done));

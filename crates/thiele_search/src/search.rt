@@ -380,18 +380,6 @@ impl<'a, A: Allocator + Copy> Narrowing for ThieleSearch<'a, A> {
         self.eligible_again(&Node { free, ..*node }, least)
     }
 
-    fn child(&self, plan: &Plan, node: &Node, next: u8) -> Node {
-        let child = Node {
-            set: node.set.with(next),
-            free: node.free.without(next),
-            left: node.left - 1,
-        };
-        let value = self.child_value(plan, node, next);
-        let promising = self.promising(&plan.worths, &child, value, plan.least);
-        let free = promising.unwrap_or(CandSet::empty());
-        Node { free, ..child }
-    }
-
     fn child_value(&self, plan: &Plan, _node: &Node, next: u8) -> u128 {
         plan.value + plan.worths.of(next)
     }
