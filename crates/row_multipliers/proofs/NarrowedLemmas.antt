@@ -1,5 +1,5 @@
 -- Free candidates of whom all are who join.
-use Rattle.std.proofs.Common.{◌≡◌, ℕ, ◌≤◌, ◌&&◌, ◌∙◌, true, List, [], Option, None, Some, ap, arith, inl, inr, sum_by}
+use Rattle.std.proofs.Common.{◌≡◌, ℕ, ◌≤◌, ◌&&◌, ◌∙◌, true, List, Option, None, Some, ap, arith, inl, inr, sum_by}
 use Rattle.std.specs.Prelude.{MatchOption}
 use Rattle.std.proofs.lemmas.Bool.{cases_lt}
 use Rattle.ballot_base.specs.CandSet.{common_members, has_member}
@@ -58,15 +58,6 @@ pub narrowed-round : (value : List ℕ → ℕ) (m : ℕ) (node here : Node) (le
 narrowed-round value m node here least set_is left_is narrowed None none = narrowed-out value m node.set node.free here.free node.left least narrowed (rw (set_is, left_is) at none)
 narrowed-round value m node here least set_is left_is narrowed (Some kept) fewer = narrowed-more value m node.set node.free here.free node.left least narrowed kept (rw (set_is, left_is) at fewer)
 
--- who can still join a set for a value can include all who can for a higher one
-pub narrowed-later : (value : List ℕ → ℕ) (m : ℕ) (set free : List ℕ) (left least later : ℕ) (rest : List ℕ) → least ≤ later → IsNarrowed value m set free left least rest
-    → IsNarrowed value m set free left later rest
-narrowed-later value m set free left least later rest higher narrowed = record {
-  is_node = narrowed.is_node;
-  among = narrowed.among;
-  kept = λ committee whole reaches. narrowed.kept committee whole (omega (arith, higher, reaches));
-}
-
 -- where those whom a committee adds that reaches the value are worth so much together, members for so much narrow
 module _ (value : List ℕ → ℕ) (m : ℕ) (set free : List ℕ) (left least : ℕ) (worth : ℕ → ℕ) (due : ℕ) (few : m ≤ most_candidates) (is_node : IsNode m set free)
     (pays : (committee : List ℕ) → IsCompletion m set free left committee → least ≤ value committee → due ≤ sum_by worth (common_members free committee)) where
@@ -87,12 +78,3 @@ module _ (value : List ℕ → ℕ) (m : ℕ) (set free : List ℕ) (left least 
       (λ committee whole reaches n in_ open_.
       wanted.all (common_members free committee) (added-chosen committee whole) (pays committee whole reaches) n
       (has_member-filter (has_member committee) free n ∙ ap (λ b. b && has_member free n) in_ ∙ open_))
-
--- where no completion reaches the value, nobody need be free
-pub narrowed-empty : (value : List ℕ → ℕ) (m : ℕ) (set free : List ℕ) (left least : ℕ) → IsNode m set free → IsOutOfReach value m set free left least
-    → IsNarrowed value m set free left least []
-narrowed-empty value m set free left least is_node none = record {
-  is_node = record { set_within = is_node.set_within; free_within = tt; apart = λ n is. absurd cc };
-  among = λ n is. absurd cc;
-  kept = λ committee whole reaches. absurd (omega (arith, none committee whole, reaches));
-}

@@ -1,5 +1,5 @@
 -- The bound of a node by gains, under a Thiele rule.
-use Rattle.std.proofs.Common.{◌≡◌, ℕ, ◌+◌, ◌-◌, ◌≤◌, ◌==◌, ◌||◌, ◌∙◌, Bool, true, false, List, Option, [], ◌∷◌, ◌++◌, refl, sym, ap, arith, get_or, sum_by}
+use Rattle.std.proofs.Common.{◌≡◌, ℕ, ◌+◌, ◌-◌, ◌≤◌, ◌==◌, ◌||◌, ◌∙◌, true, List, Option, [], ◌∷◌, ◌++◌, sym, ap, arith, get_or, sum_by}
 use Rattle.std.proofs.lemmas.List.{append-nil}
 use Rattle.std.proofs.Math.Bool.{or-false, or_comm}
 use Rattle.std.proofs.lemmas.List.Folds.{list_any-append}
@@ -60,24 +60,6 @@ module _ (value : List ℕ → ℕ) (falls : IsSubmodular value) (same : (xs ys 
       let none : set ++ [] ≡ set = append-nil set in
       let step : value (set ++ more) ≤ value set + sum_by (λ n. value (set ++ n ∷ []) - value set) more = rw none at (gains-bound value falls set [] more) in
       omega (arith, is, step, sum-less (λ n. value (set ++ n ∷ []) - value set) (gain_at value set) more (λ n in_. omega (arith, push-same set n)))
-
-  push-twice : (set : List ℕ) (x n : ℕ) → value ((set ++ x ∷ []) ++ n ∷ []) ≡ value (with_member (with_member set x) n)
-  push-twice set x n =
-      push-same (set ++ x ∷ []) n
-      ∙ same (with_member (set ++ x ∷ []) n) (with_member (with_member set x) n) (λ y.
-      has_member-with_member (set ++ x ∷ []) n y
-      ∙ ap (λ b. (n == y) || b) (list_any-append (λ z. z == y) set (x ∷ []) ∙ swap (has_member set y) (x == y) ∙ sym (has_member-with_member set x y))
-      ∙ sym (has_member-with_member (with_member set x) n y))
-    where
-      swap : (p q : Bool) → (p || (q || false)) ≡ (q || p)
-      swap true true = refl
-      swap true false = refl
-      swap false true = refl
-      swap false false = refl
-
-  -- a gain is no larger after a candidate has joined
-  pub gain-falls : (set : List ℕ) (x n : ℕ) → gain_at value (with_member set x) n ≤ gain_at value set n
-  gain-falls set x n = omega (arith, falls set (x ∷ []) n, push-twice set x n, push-same set x, push-same set n)
 
 -- the gains at a set are those of the rule
 pub gain-same : (tally : Thiele) (set free gains : List ℕ) → IsElection tally.election → IsNode tally.election.m set free
