@@ -5,6 +5,7 @@ use super::support::{assert_of, ballot_of};
 use ballot_base::{Profile, ProfileBuilder, ThieleRule};
 use minimax_search::MinimaxSearch;
 use refusing_heap::{Measured, Usage};
+use std::alloc::Allocator;
 use std::process::Abort;
 use thiele_search::{SearchMemory, ThieleSearch};
 use tie_search::SearchWinners;
@@ -59,11 +60,17 @@ fn assert_taken(rt: &impl Abort, heap: &Measured, before: usize, most: usize) {
     );
 }
 
-/// Asserts that a search under a Thiele rule takes its memory before it begins.
-fn assert_memory_first<'h>(rt: &impl Abort, heap: &'h Measured, ballots: u64) {
-    let profile = different_ballots(rt, heap, ballots);
+/// Asserts that a search under a Thiele rule takes its memory before it begins. The allocator counts into the heap.
+fn assert_memory_first<A: Allocator + Copy + Drop>(
+    rt: &impl Abort,
+    heap: &Measured,
+    profile: &Profile<A>,
+    alloc: A,
+)
+    requires { profile.now.m ≡ 20 }
+{
     let before = count_from_here(heap);
-    let memory = SearchMemory::new(heap, &profile, ThieleRule::Pav, SIZE).expect(rt, "memory");
+    let memory = SearchMemory::new(alloc, profile, ThieleRule::Pav, SIZE).expect(rt, "memory");
     let most = BALLOT.saturating_mul(profile.rows()).saturating_add(BESIDE);
     assert_taken(rt, heap, before, most);
     let before = count_from_here(heap);
@@ -76,7 +83,8 @@ fn assert_memory_first<'h>(rt: &impl Abort, heap: &'h Measured, ballots: u64) {
 fn a_search_takes_its_memory_first(rt: HostRuntime) {
     let heap = Measured::new(rt.alloc());
     for ballots in &BALLOTS {
-        assert_memory_first(&rt, &heap, *ballots);
+        let profile = different_ballots(&rt, &heap, *ballots);
+        assert_memory_first(&rt, &heap, &profile, &heap);
     }
 }
 
