@@ -6,6 +6,7 @@ pub mod OverlapLemmas
 pub mod PairLemmas
 pub mod PairNodes
 pub mod PairTotals
+pub mod PartLemmas
 pub mod PlaceLemmas
 pub mod SumLemmas
 pub mod TripleLemmas

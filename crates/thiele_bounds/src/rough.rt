@@ -4,6 +4,7 @@
 //! threshold is the worth of the last of the best. A threshold about there is found in two or three passes.
 ghost use Rattle.std.specs.Prelude.{◌≡◌, ℕ, ◌-◌, ◌*◌, ◌≤◌, ◌==◌, List, slice_index, sum_by, if◌then◌else◌};
 ghost use Rattle.ballot_base.specs.Limits.{most_candidates};
+ghost use Rattle.ballot_base.specs.Lists.{IsIncreasing};
 ghost use Rattle.thiele_bounds.specs.Steps.Threes.{IsBound, most_rough};
 
 use ballot_base::{CandSet, PLACES};
@@ -19,6 +20,8 @@ const TURNS: u8 = 4;
 #[derive(Drop)]
 pub(crate) struct Rough {
     each: [u64; PLACES],
+    // How far the last threshold lay above the mean worth, or below it, modulo 2^64.
+    rise: u64,
 }
 
 impl Model for Rough {
@@ -34,7 +37,10 @@ impl Rough {
     pub(crate) fn none() -> Rough
         ensures { (n : ℕ) → slice_index result n ≡ 0 }
     {
-        Rough { each: [0; PLACES] }
+        Rough {
+            each: [0; PLACES],
+            rise: 0,
+        }
     }
 
     /// Sets the worth of a candidate.
@@ -46,15 +52,14 @@ impl Rough {
         self.each[usize::from(candidate)] = worth;
     }
 
-    /// A bound on the sum of the worths of `count` of the candidates, by a threshold that is nearly the best. `rise` is
-    /// how far such a threshold lies above the mean worth, or below it, modulo 2^64: at first a guess, and at last what
-    /// was found.
-    pub(crate) fn bound(&self, candidates: CandSet, count: u8, rise: &mut u64) -> u64
-        ensures { IsBound self.now candidates count result }
+    /// A bound on the sum of the worths of `count` of the candidates, by a threshold that is nearly the best. All others
+    /// should be worth 0. A threshold is looked for about as far from the mean worth as the last one was.
+    pub(crate) fn bound(&mut self, candidates: CandSet, count: u8) -> u64
+        ensures { IsBound self.old candidates count result }
     {
         let many = u64::from(candidates.len().max(1));
-        let mean = self.excess(candidates, 0).more / many;
-        let guess = mean.wrapping_add(*rise);
+        let mean = self.excess(0).more / many;
+        let guess = mean.wrapping_add(self.rise);
         let mut last = self.tried(candidates, count, guess.min(MOST_ROUGH));
         let mut least = last;
         for _turn in 1..TURNS {
@@ -66,16 +71,17 @@ impl Rough {
                 least = last;
             }
         }
-        *rise = least.threshold.wrapping_sub(mean);
+        self.rise = least.threshold.wrapping_sub(mean);
         least.sum
     }
 
     /// The bound by a threshold.
     fn tried(&self, candidates: CandSet, count: u8, threshold: u64) -> Tried
-        requires { threshold ≤ most_rough }
+        requires threshold { threshold ≤ most_rough }
+        requires candidates { IsIncreasing 1 most_candidates candidates }
         ensures { IsBound self.now candidates count result.sum }
     {
-        let excess = self.excess(candidates, threshold);
+        let excess = self.excess(threshold);
         Tried {
             sum: u64::from(count) * threshold + excess.more,
             threshold,
@@ -84,19 +90,24 @@ impl Rough {
         }
     }
 
-    /// By how much the worths of these candidates exceed a threshold.
-    fn excess(&self, candidates: CandSet, threshold: u64) -> Excess
-        ensures more { result.more ≡ sum_by (λ n. slice_index self.now n - threshold) candidates }
+    /// By how much all worths exceed a threshold. Those of some candidates exceed it by no more. All are passed over in
+    /// order, since that takes less time than looking for the candidates.
+    fn excess(&self, threshold: u64) -> Excess
+        ensures more { (candidates : List ℕ) → IsIncreasing 1 most_candidates candidates
+            → sum_by (λ n. slice_index self.now n - threshold) candidates ≤ result.more }
         ensures small { result.more ≤ most_candidates * most_rough }
     {
         let mut more = 0;
-        let mut above: u8 = 0;
-        for candidate in candidates.members() {
-            let worth = self.each[usize::from(candidate)];
+        let mut above: u64 = 0;
+        for candidate in 1..PLACES {
+            let worth = self.each[candidate];
             more += worth.saturating_sub(threshold);
-            above = above.wrapping_add(u8::from(worth > threshold));
+            above += u64::from(worth > threshold);
         }
-        Excess { more, above }
+        Excess {
+            more,
+            above: above as u8,
+        }
     }
 }
 

@@ -2,9 +2,9 @@
 ghost use Rattle.std.specs.Prelude.{◌≡◌, ℕ, ◌+◌, ◌^◌, ◌<◌, ◌≤◌, ◌==◌, true, ⊤, length, MatchOption, slice_index, if◌then◌else◌};
 ghost use Rattle.ballot_base.specs.Limits.{most_candidates};
 ghost use Rattle.ballot_base.specs.CandSet.{has_member};
-ghost use Rattle.thiele_bounds.specs.Steps.Places.{HasRoom, tetrahedron, triple_place, word_at};
+ghost use Rattle.thiele_bounds.specs.Steps.Places.{HasRoom, tetrahedron, word_at};
 
-use crate::pairs::{place, row_start};
+use crate::pairs::row_start;
 use ballot_base::CandSet;
 use std::alloc::{AllocError, Allocator};
 use std::cell::Cell;
@@ -53,22 +53,11 @@ impl<A: Allocator> TripleMemory<A> {
     }
 }
 
-fn plane_start(candidate: u8) -> usize
+pub(crate) fn plane_start(candidate: u8) -> usize
     ensures { result ≡ tetrahedron candidate }
 {
     let candidate = usize::from(candidate);
     candidate * (candidate + 1) * (candidate + 2) / 6
-}
-
-/// The place of three candidates, in any order.
-pub(crate) fn place_of_three(i: u8, j: u8, l: u8) -> usize
-    requires i { i ≤ most_candidates }
-    requires j { j ≤ most_candidates }
-    requires l { l ≤ most_candidates }
-    ensures { result ≡ triple_place i j l }
-{
-    let high = i.max(j);
-    plane_start(high.max(l)) + place(high.min(l), i.min(j))
 }
 
 /// Adds this amount for each three of the members. An amount of 0 takes no time.

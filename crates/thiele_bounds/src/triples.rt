@@ -14,15 +14,15 @@ ghost use Rattle.row_multipliers.specs.Completions.{IsNode};
 ghost use Rattle.thiele_bounds.specs.Triples.{threshold_sum};
 ghost use Rattle.thiele_bounds.specs.Steps.Paired.{AreNothing, AreSmallSums, most_sum, overlap_at};
 ghost use Rattle.thiele_bounds.specs.Steps.Cubics.{IsSmallCubic, bend_at, contact, fall_at, highest, increment_at, lack, overlap_of, touch_of, triple_at, worth_at};
-ghost use Rattle.thiele_bounds.specs.Steps.Threes.{AreBends, AreCubics, AreThree, AreThrees, AreTriples, AreTwos, IsSumOfOne, IsSumOfTwo, three_of};
+ghost use Rattle.thiele_bounds.specs.Steps.Threes.{AreBends, AreCubics, ArePlaces, AreShared, AreThrees, AreTriples, AreTwos, CanShare, IsPart, IsSumOfOne, IsSumOfTwo, most_rough, three_of, three_rough, worth_by};
 ghost use Rattle.thiele_bounds.specs.Steps.Places.{HasRoom};
 ghost use Rattle.thiele_bounds.specs.Steps.Totals.{AreSmall, NarrowsUnder};
 ghost use Rattle.thiele_bounds.specs.Steps.Units.{most_overlap};
 
 use crate::majorant::{HitSums, Majorant};
-use crate::pairs::{TABLE_PLACES, Table, Totals, place};
+use crate::pairs::{TABLE_PLACES, Table, Totals, place, row_start};
 use crate::rough::Rough;
-use crate::triple_table::{TripleMemory, add_threes, place_of_three};
+use crate::triple_table::{TripleMemory, add_threes, plane_start};
 use ballot_base::{CandSet, MOST_CANDIDATES, PLACES, Profile, Worths};
 use row_multipliers::Node;
 use std::alloc::Allocator;
@@ -82,17 +82,18 @@ impl<A: Allocator + Copy> TripleSearch<'_, A> {
         self.add_ballots(&mut totals, node);
         let others = u128::from(node.left - 1);
         let factor = 3 * others * u128::from(node.left - 2);
-        let raise = 3 * others * u128::from(totals.greatest_overlap());
+        let most = totals.greatest_overlap();
+        let raise = 3 * others * u128::from(most);
         let due = self
             .given
             .units(self.least)
             .saturating_mul(factor)
             .saturating_add(u128::from(node.left) * others * u128::from(node.left - 2) * raise);
+        share_pairs(&mut totals.overlaps, &totals.worths, node, most);
         let threes = Threes {
             node,
-            totals: &totals,
+            pairs: &totals.overlaps,
             triples,
-            raise,
         };
         threes.sums().members_for(
             node.free,
@@ -172,14 +173,41 @@ struct Bends {
     triples: [u64; PLACES],
 }
 
-/// What worths of three are made of.
+/// For each two free candidates, puts their part of the worths of three in the place of their overlap: half of the worth
+/// of each, and by how much their overlap is below the greatest, once for each of the others. It is rounded up.
+fn share_pairs(pairs: &mut Table, worths: &Worths, node: &Node, most: u64)
+    requires { CanShare worths.now pairs.old node.now.free node.now.left most }
+    ensures { AreShared worths.now pairs.old node.now.free node.now.left most pairs.new }
+{
+    for i in node.free.members() {
+        share_row(pairs, worths, node, i, most);
+    }
+}
+
+/// Like `share_pairs`, for a candidate and each free one before it.
+fn share_row(pairs: &mut Table, worths: &Worths, node: &Node, i: u8, most: u64)
+    requires can { CanShare worths.now pairs.old node.now.free node.now.left most }
+    requires member { has_member node.now.free i ≡ true }
+    ensures made { (j : ℕ) → has_member node.now.free j ≡ true → j < i
+        → IsPart worths.now pairs.old node.now.left most i j (overlap_at pairs.new i j) }
+    ensures others { (a b : ℕ) → b < a → (a ≡ i → ⊥) → overlap_at pairs.new a b ≡ overlap_at pairs.old a b }
+{
+    let others = u128::from(node.left - 1);
+    for j in node.free.upto(i - 1).members() {
+        let at = place(i, j);
+        let spare = 2 * others * u128::from(most.saturating_sub(pairs[at]));
+        let part = worths.of(i) + worths.of(j) + spare;
+        pairs[at] = (part / (2 * ROUGHLY)) as u64 + 1;
+    }
+}
+
+/// What rounded worths of three are made of.
 #[derive(Drop)]
 struct Threes<'a> {
     node: &'a Node,
-    totals: &'a Totals,
+    // The part of each two free candidates.
+    pairs: &'a Table,
     triples: &'a [u64],
-    // Worths of three are raised by this, so that none is below 0.
-    raise: u128,
 }
 
 impl Threes<'_> {
@@ -219,60 +247,110 @@ impl Threes<'_> {
         requires { AreThrees self.now }
         ensures { AreTwos self.now twos.new }
     {
+        let mut worths = Rough::none();
         for i in self.node.free.members() {
-            self.fill_row(twos, i);
+            self.fill_row(twos, i, &mut worths);
         }
     }
 
-    /// Makes the sums of a candidate and each free one before it.
-    fn fill_row(&self, twos: &mut Table, i: u8)
+    /// Makes the sums of a candidate and each free one before it. `worths` are used for the worths of three.
+    fn fill_row(&self, twos: &mut Table, i: u8, worths: &mut Rough)
         requires threes { AreThrees self.now }
         requires member { has_member self.now.node.now.free i ≡ true }
         ensures made { (j : ℕ) → has_member self.now.node.now.free j ≡ true → j < i
             → IsSumOfTwo self.now i j (overlap_at twos.new i j) }
         ensures others { (a b : ℕ) → b < a → (a ≡ i → ⊥) → overlap_at twos.new a b ≡ overlap_at twos.old a b }
     {
-        // A threshold is looked for about there where the last one was.
-        let mut rise = 0;
         for j in self.node.free.upto(i - 1).members() {
-            twos[place(i, j)] = self.sum_of_two(i, j, &mut rise);
+            twos[place(i, j)] = self.sum_of_two(i, j, worths);
         }
     }
 
-    /// A bound on the worths of three that two candidates and others make, rounded up. `rise` is where a threshold is
-    /// looked for, and at last where it was.
-    fn sum_of_two(&self, i: u8, j: u8, rise: &mut u64) -> u64
+    /// A bound on the worths of three that a candidate, one before it and others make, rounded up.
+    fn sum_of_two(&self, i: u8, j: u8, worths: &mut Rough) -> u64
         requires threes { AreThrees self.now }
         requires first { has_member self.now.node.now.free i ≡ true }
         requires second { has_member self.now.node.now.free j ≡ true }
+        requires order { j < i }
         ensures { IsSumOfTwo self.now i j result }
     {
+        worths.set(i, 0);
+        worths.set(j, 0);
+        self.set_below(i, j, worths);
+        self.set_between(i, j, worths);
+        self.set_above(i, j, worths);
         let others = self.node.free.without(i).without(j);
-        self.worths_with(i, j)
-            .bound(others, self.node.left - 2, rise)
+        worths.bound(others, self.node.left - 2)
     }
 
-    /// The worth of three with these two, for each of the others, rounded up.
-    fn worths_with(&self, i: u8, j: u8) -> Rough
+    /// Sets the worth of three with these two, for each free candidate before both.
+    fn set_below(&self, i: u8, j: u8, worths: &mut Rough)
         requires threes { AreThrees self.now }
         requires first { has_member self.now.node.now.free i ≡ true }
         requires second { has_member self.now.node.now.free j ≡ true }
-        ensures { AreThree self.now i j result }
+        requires order { j < i }
+        ensures made { (l : ℕ) → has_member self.now.node.now.free l ≡ true → l < j
+            → slice_index worths.new l ≡ three_rough self.now i j l }
+        ensures kept { (l : ℕ) → j ≤ l → slice_index worths.new l ≡ slice_index worths.old l }
+    {
+        let (first, second) = (row_start(i), row_start(j));
+        let pair = first + usize::from(j);
+        let start = plane_start(i) + second;
+        for l in self.node.free.upto(j - 1).members() {
+            let at = usize::from(l);
+            worths.set(l, self.worth(pair, first + at, second + at, start + at));
+        }
+    }
+
+    /// Sets the worth of three with these two, for each free candidate between them.
+    fn set_between(&self, i: u8, j: u8, worths: &mut Rough)
+        requires threes { AreThrees self.now }
+        requires first { has_member self.now.node.now.free i ≡ true }
+        requires second { has_member self.now.node.now.free j ≡ true }
+        requires order { j < i }
+        ensures made { (l : ℕ) → has_member self.now.node.now.free l ≡ true → j < l → l < i
+            → slice_index worths.new l ≡ three_rough self.now i j l }
+        ensures kept { (l : ℕ) → (j < l → l < i → ⊥) → slice_index worths.new l ≡ slice_index worths.old l }
+    {
+        let (first, plane) = (row_start(i), plane_start(i));
+        let pair = first + usize::from(j);
+        let between = self.node.free.minus(self.node.free.upto(j)).upto(i - 1);
+        for l in between.members() {
+            let at = row_start(l) + usize::from(j);
+            worths.set(l, self.worth(pair, first + usize::from(l), at, plane + at));
+        }
+    }
+
+    /// Sets the worth of three with these two, for each free candidate after both.
+    fn set_above(&self, i: u8, j: u8, worths: &mut Rough)
+        requires threes { AreThrees self.now }
+        requires first { has_member self.now.node.now.free i ≡ true }
+        requires second { has_member self.now.node.now.free j ≡ true }
+        requires order { j < i }
+        ensures made { (l : ℕ) → has_member self.now.node.now.free l ≡ true → i < l
+            → slice_index worths.new l ≡ three_rough self.now i j l }
+        ensures kept { (l : ℕ) → l ≤ i → slice_index worths.new l ≡ slice_index worths.old l }
+    {
+        let pair = row_start(i) + usize::from(j);
+        for l in self.node.free.minus(self.node.free.upto(i)).members() {
+            let row = row_start(l);
+            let (second, third) = (row + usize::from(i), row + usize::from(j));
+            worths.set(l, self.worth(pair, second, third, plane_start(l) + pair));
+        }
+    }
+
+    /// A worth of three, by the places of its three pairs and of its triple.
+    fn worth(&self, first: usize, second: usize, third: usize, triple: usize) -> u64
+        requires threes { AreThrees self.now }
+        requires places { ArePlaces self.now first second third triple }
+        ensures value { result ≡ worth_by self.now first second third triple }
+        ensures small { result ≤ most_rough }
     {
         let others = u64::from(self.node.left - 1);
         let factor = 3 * others * u64::from(self.node.left - 2);
-        let worths = &self.totals.worths;
-        let overlaps = &self.totals.overlaps;
-        let mut three = Rough::none();
-        for l in self.node.free.without(i).without(j).members() {
-            let overlap = overlaps[place(i, j)] + overlaps[place(i, l)] + overlaps[place(j, l)];
-            let triple = self.triples[place_of_three(i, j, l)];
-            let worth = worths.of(i) + worths.of(j) + worths.of(l);
-            let worth = worth + u128::from(factor) * u128::from(triple) + self.raise
-                - u128::from(others) * u128::from(overlap);
-            three.set(l, (worth / ROUGHLY) as u64 + 1);
-        }
-        three
+        let bends = u128::from(factor) * u128::from(self.triples[triple]);
+        let pairs = self.pairs[first] + self.pairs[second] + self.pairs[third];
+        pairs + (bends / ROUGHLY) as u64 + 1
     }
 }
 

@@ -187,3 +187,18 @@ one-same three other free left i sum same (third, second, is) = (
         (λ j here. threshold-same (three i j) (other i j) (without_member (without_member free i) j) (left - 2) (third j) (λ l there. same j l here there)),
   ),
 )
+
+-- lower worths of three have lower row sums
+pub one-less : (three other : ℕ → ℕ → ℕ → ℕ) (free : List ℕ) (left i sum : ℕ)
+    → ((j l : ℕ) → has_member (without_member free i) j ≡ true → has_member (without_member (without_member free i) j) l ≡ true → three i j l ≤ other i j l)
+    → IsSumOfOne other free left i sum → IsSumOfOne three free left i sum
+one-less three other free left i sum less (third, second, is) = (
+  third,
+  second,
+  omega (
+    arith,
+    is,
+    threshold-less (sum_of_two three free left (λ n. third) i) (sum_of_two other free left (λ n. third) i) (without_member free i) (left - 1) second
+        (λ j here. threshold-less (three i j) (other i j) (without_member (without_member free i) j) (left - 2) (third j) (λ l there. less j l here there)),
+  ),
+)

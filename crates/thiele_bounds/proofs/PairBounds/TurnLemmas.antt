@@ -1,5 +1,5 @@
 -- Orders of two and of three candidates.
-use Rattle.std.proofs.Common.{◌≡◌, ℕ, ◌+◌, ◌-◌, ◌*◌, ◌<◌, ◌≤◌, ◌∙◌, Bool, true, false, List, [], ◌∷◌, refl, sym, ap, subst, arith, inl, inr, length, max, min, set, sum_by}
+use Rattle.std.proofs.Common.{◌≡◌, ℕ, ◌+◌, ◌-◌, ◌*◌, ◌/◌, ◌<◌, ◌≤◌, ◌∙◌, Bool, true, false, List, [], ◌∷◌, refl, sym, ap, subst, arith, inl, inr, length, max, min, set, sum_by}
 use Rattle.std.specs.Prelude.{slice_index}
 use Rattle.std.proofs.lemmas.Bool.{cases_lt}
 use Rattle.std.proofs.lemmas.List.{get_or-set_other, get_or-set_same}
@@ -15,7 +15,7 @@ use Rattle.thiele_bounds.specs.Triples.{all_triples, threshold_sum}
 use Rattle.thiele_bounds.specs.Steps.Cubics.{row_triple}
 use Rattle.thiele_bounds.specs.Steps.Paired.{overlap_at, pair_place, triangle}
 use Rattle.thiele_bounds.specs.Steps.Places.{HasRoom, tetrahedron, triple_place, word_of}
-use Rattle.thiele_bounds.specs.Steps.Threes.{AreThrees, AreTriples, AreTwos, IsSumOfOne, IsSumOfTwo, three_at, three_of}
+use Rattle.thiele_bounds.specs.Steps.Threes.{AreThrees, AreTriples, AreTwos, IsSumOfOne, IsSumOfTwo, roughly, three_at, three_of}
 use Rattle.thiele_bounds.specs.declared.pairs.Totals.{Totals}
 use Rattle.thiele_bounds.specs.declared.triples.Threes.{Threes}
 use Rattle.thiele_bounds.proofs.PairBounds.CubicLemmas.{one-same, threshold-same, triple-sum}
@@ -51,7 +51,7 @@ triple-turned i j l =
     let less : min i j ≡ min j i = omega arith in
     ap (λ n. tetrahedron (max n l) + pair_place (min n l) (min i j)) more ∙ ap (λ n. tetrahedron (max (max j i) l) + pair_place (min (max j i) l) n) less
 
-place-is : (i j l z y x : ℕ) → max (max i j) l ≡ z → max (min (max i j) l) (min i j) ≡ y → min (min (max i j) l) (min i j) ≡ x → triple_place i j l ≡ tetrahedron z + triangle y + x
+pub place-is : (i j l z y x : ℕ) → max (max i j) l ≡ z → max (min (max i j) l) (min i j) ≡ y → min (min (max i j) l) (min i j) ≡ x → triple_place i j l ≡ tetrahedron z + triangle y + x
 place-is i j l z y x high middle low = omega (arith, ap tetrahedron high, ap triangle middle, low)
 
 -- the sum of two is set
@@ -59,7 +59,7 @@ module _ (twos : List ℕ) (i first v : ℕ) (long : length twos ≡ 2145) (smal
   abbrev after : List ℕ
   after = set twos (pair_place i first) v
 
-  row-place : (a b : ℕ) → b < a → pair_place a b ≡ triangle a + b
+  pub row-place : (a b : ℕ) → b < a → pair_place a b ≡ triangle a + b
   row-place a b less = omega (arith, ap triangle (let is : max a b ≡ a = omega (arith, less) in is))
 
   pub two-made : overlap_at after i first ≡ v
@@ -182,11 +182,8 @@ parts-same ballot free open_ z y x amount is one two three =
 
 three-turned : (threes : Threes) (i j l : ℕ) → three_of threes j i l ≡ three_of threes i j l
 three-turned threes i j l =
-    let totals = threes.totals.now in
     let left = threes.node.now.left in
-    let overlaps : overlap_at totals.overlaps j i + overlap_at totals.overlaps j l + overlap_at totals.overlaps i l ≡ overlap_at totals.overlaps i j + overlap_at totals.overlaps i l + overlap_at totals.overlaps j l =
-    omega (arith, ap (slice_index totals.overlaps) (place-turned j i)) in
-    omega (arith, ap (λ n. 3 * (left - 1) * (left - 2) * slice_index threes.triples.now n) (triple-turned j i l), ap (λ n. (left - 1) * n) overlaps)
+    omega (arith, ap (slice_index threes.pairs.now) (place-turned j i), ap (λ n. 3 * (left - 1) * (left - 2) * slice_index threes.triples.now n / roughly) (triple-turned j i l))
 
 -- the sum of two in either order
 pub two-read : (threes : Threes) (twos : List ℕ) → AreThrees threes → AreTwos threes twos → (i j : ℕ) → has_member threes.node.now.free i ≡ true → has_member threes.node.now.free j ≡ true → (j ≡ i → ⊥)

@@ -50,6 +50,9 @@ bounds-twos-place c =
     let before = j-before at.In-Some in
     omega (arith, c.place.ensures, pair-within c.args.i c.in-Some.j low (let few : c.in-Some.j ≤ most_candidates = omega (arith, low, before) in few))
 
+pub sum_of_two-requires-clause-order : goal.sum_of_two-requires-clause-order
+sum_of_two-requires-clause-order c = j-before (goal.at.sum_of_two-requires-clause-order c).In-Some
+
 pub loop-j-preserved : goal.loop-j-preserved
 loop-j-preserved c =
     let self = c.args.self.now in
