@@ -206,10 +206,10 @@ impl Majorant {
 }
 
 /// A table of majorants has places for fewer hits before than this.
-const PLACES_BEFORE: usize = 8;
+pub(crate) const PLACES_BEFORE: usize = 8;
 
 /// A table of majorants has places for ballots that approve fewer free candidates than this.
-const PLACES_OPEN: usize = 32;
+pub(crate) const PLACES_OPEN: usize = 32;
 
 /// The number of places in a table of majorants.
 const TABLE_PLACES: usize = 256;

@@ -13,19 +13,20 @@ ghost use Rattle.ballot_base.specs.Lists.{IsIncreasing};
 ghost use Rattle.row_multipliers.specs.Completions.{IsNode};
 ghost use Rattle.thiele_bounds.specs.Triples.{threshold_sum};
 ghost use Rattle.thiele_bounds.specs.Steps.Paired.{AreNothing, AreSmallSums, most_sum, overlap_at};
-ghost use Rattle.thiele_bounds.specs.Steps.Cubics.{IsSmallCubic, bend_at, contact, fall_at, highest, increment_at, lack, overlap_of, touch_of, triple_at, worth_at};
+ghost use Rattle.thiele_bounds.specs.Steps.Cubics.{AreKept, Cubed, IsCubicOf, IsSmallCubic, bend_at, contact, fall_at, highest, increment_at, lack, overlap_of, touch_of, triple_at, worth_at};
 ghost use Rattle.thiele_bounds.specs.Steps.Threes.{AreBends, AreCubics, ArePlaces, AreShared, AreThrees, AreTriples, AreTwos, CanShare, IsPart, IsSumOfOne, IsSumOfTwo, most_rough, three_of, three_rough, worth_by};
 ghost use Rattle.thiele_bounds.specs.Steps.Places.{HasRoom};
 ghost use Rattle.thiele_bounds.specs.Steps.Totals.{AreSmall, NarrowsUnder};
 ghost use Rattle.thiele_bounds.specs.Steps.Units.{most_overlap};
 
-use crate::majorant::{HitSums, Majorant};
+use crate::majorant::{HitSums, Majorant, PLACES_BEFORE, PLACES_OPEN};
 use crate::pairs::{TABLE_PLACES, Table, Totals, place, row_start};
 use crate::rough::Rough;
 use crate::triple_table::{TripleMemory, add_threes, plane_start};
 use ballot_base::{CandSet, MOST_CANDIDATES, PLACES, Profile, Worths};
 use row_multipliers::Node;
 use std::alloc::Allocator;
+use std::marker::Model;
 
 /// The number of units of worths of three in a unit of the rounded ones. So these fit into words.
 const ROUGHLY: u128 = 1 << 30;
@@ -112,20 +113,11 @@ impl<A: Allocator + Copy> TripleSearch<'_, A> {
         ensures small { AreSmall totals.new }
         ensures valid { IsElection self.now.profile.now }
     {
+        let mut cubics = Cubics::new(&self.given.sums, node, self.shift);
         for (ballot, voters) in self.profile.ballots() {
             let approved = ballot.common(node.free);
             let before = ballot.common(node.set).len();
-            let cubic = Cubic::of(
-                &self.given.sums,
-                before,
-                touch_at(node, approved.len(), self.shift),
-            );
-            let most = node.left.min(approved.len());
-            let majorant = Majorant {
-                constant: cubic.constant(&self.given.sums, before, most),
-                worth: cubic.worth,
-                overlap: cubic.overlap,
-            };
+            let majorant = cubics.of_ballot(before, approved.len());
             totals.add(majorant, approved, voters);
         }
     }
@@ -418,6 +410,76 @@ impl Cubic {
                 .max(constant);
         }
         constant
+    }
+}
+
+/// The number of places in a table of cubics.
+const CUBIC_PLACES: usize = 256;
+
+/// The cubics of ballots at a node, without their triples. Each is computed when it is first asked for, and kept.
+/// Contracts see for what they are made.
+#[derive(Drop)]
+struct Cubics<'a> {
+    sums: &'a [u64; PLACES],
+    node: &'a Node,
+    shift: u8,
+    table: [Option<Majorant>; CUBIC_PLACES],
+}
+
+impl<'a> Model for Cubics<'a> {
+    ghost Value = { Cubed };
+
+    ghost view = { λ t. record { sums = t.sums.now; shift = t.shift; left = t.node.now.left; free = length t.node.now.free } };
+
+    ghost invariant = { λ t. (1 ≤ length t.node.now.free) × AreSmallSums t.sums.now
+        × AreKept (record { sums = t.sums.now; shift = t.shift; left = t.node.now.left; free = length t.node.now.free }) t.table };
+}
+
+impl<'a> Cubics<'a> {
+    fn new(sums: &'a [u64; PLACES], node: &'a Node, shift: u8) -> Cubics<'a>
+        requires some { 1 ≤ length node.now.free }
+        requires small { AreSmallSums sums.now }
+        ensures { result ≡ record { sums = sums.now; shift = shift; left = node.now.left; free = length node.now.free } }
+    {
+        Cubics {
+            sums,
+            node,
+            shift,
+            table: [None; CUBIC_PLACES],
+        }
+    }
+
+    /// The cubic of a ballot that has `before` hits and approves `approved` free candidates.
+    fn of_ballot(&mut self, before: u8, approved: u8) -> Majorant
+        requires { before + approved ≤ most_candidates }
+        ensures cubic { IsCubicOf self.old before approved result }
+        ensures same { self.new ≡ self.old }
+    {
+        let (row, column) = (usize::from(before), usize::from(approved));
+        if row >= PLACES_BEFORE || column >= PLACES_OPEN {
+            return self.made(before, approved);
+        }
+        let place = PLACES_OPEN * row + column;
+        if let Some(cubic) = self.table[place] {
+            return cubic;
+        }
+        let cubic = self.made(before, approved);
+        self.table[place] = Some(cubic);
+        cubic
+    }
+
+    fn made(&self, before: u8, approved: u8) -> Majorant
+        requires { before + approved ≤ most_candidates }
+        ensures { IsCubicOf self.now before approved result }
+    {
+        let touch = touch_at(self.node, approved, self.shift);
+        let cubic = Cubic::of(self.sums, before, touch);
+        let most = self.node.left.min(approved);
+        Majorant {
+            constant: cubic.constant(self.sums, before, most),
+            worth: cubic.worth,
+            overlap: cubic.overlap,
+        }
     }
 }
 

@@ -1,10 +1,12 @@
 -- What majorants are made from, and tables in which they are kept.
-use Rattle.std.proofs.Common.{◌≡◌, ℕ, zero, suc, ◌+◌, ◌-◌, ◌*◌, ◌≤◌, List, Option, None, refl, sym, ap, subst, arith, min, replicate, get_or, MatchOption}
+use Rattle.std.proofs.Common.{◌≡◌, ℕ, zero, suc, ◌+◌, ◌-◌, ◌*◌, ◌<◌, ◌≤◌, ◌∙◌, List, Option, None, Some, refl, sym, ap, subst, arith, inl, inr, length, min, replicate, get_or, get_or-set_other, get_or-set_same, set, MatchOption}
 use Rattle.std.specs.Prelude.{⊤}
 use Rattle.ballot_base.specs.Limits.{most_candidates}
 use Rattle.thiele_bounds.specs.declared.majorant.HitSums.{HitSums}
 use Rattle.thiele_bounds.specs.declared.majorant.Majorant.{Majorant}
-use Rattle.thiele_bounds.specs.Steps.Majorants.{AreMajorants, places_open}
+use Rattle.thiele_bounds.specs.Steps.Cubics.{AreKept, Cubed, IsCubicOf}
+use Rattle.thiele_bounds.specs.Steps.Majorants.{AreMajorants, places_before, places_open}
+use Rattle.std.proofs.lemmas.Bool.{cases_eq}
 use Rattle.thiele_bounds.specs.Steps.Paired.{AreSmallSums, IsMajorantOf}
 
 -- further hits take nothing away
@@ -31,3 +33,21 @@ nowhere (suc n) (suc i) = nowhere n i
 pub table-none : (sums : List ℕ) (left n : ℕ) → AreMajorants sums left (replicate n None)
 table-none sums left n before approved low few =
     subst (λ (o : Option Majorant). MatchOption o ⊤ (IsMajorantOf sums before (min left approved))) (sym (nowhere n (places_open * before + approved))) tt
+
+-- no cubic was made
+pub cubics-none : (cubed : Cubed) (n : ℕ) → AreKept cubed (replicate n None)
+cubics-none cubed n before approved low few =
+    subst (λ (o : Option Majorant). MatchOption o ⊤ (IsCubicOf cubed before approved)) (sym (nowhere n (places_open * before + approved))) tt
+
+-- one more was made
+pub cubics-more : (cubed : Cubed) (table : List (Option Majorant)) (row column place : ℕ) (cubic : Majorant) → place ≡ places_open * row + column → row < places_before → column < places_open → place < length table
+    → AreKept cubed table → IsCubicOf cubed row column cubic → AreKept cubed (set table place (Some cubic))
+cubics-more cubed table row column place cubic is early open_ within kept here before approved low few = elim (cases_eq (places_open * before + approved) place) [
+  | inl same ↦
+      let row_is : row ≡ before = omega (arith, same, is, few, open_) in
+      let column_is : column ≡ approved = omega (arith, same, is, few, open_) in
+      subst (λ (o : Option Majorant). MatchOption o ⊤ (IsCubicOf cubed before approved)) (sym (ap (λ n. get_or (set table place (Some cubic)) n None) same ∙ get_or-set_same table place (Some cubic) None within))
+      (subst (λ n. IsCubicOf cubed n approved cubic) row_is (subst (λ n. IsCubicOf cubed row n cubic) column_is here))
+  | inr other ↦
+      subst (λ (o : Option Majorant). MatchOption o ⊤ (IsCubicOf cubed before approved)) (sym (get_or-set_other table place (places_open * before + approved) (Some cubic) None other)) (kept before approved low few)
+]

@@ -1,6 +1,8 @@
 -- Cubic majorants of what a voter gives, each by the hits before and by how many free candidates the voter approves.
-use Rattle.std.specs.Prelude.{ℕ, zero, suc, ◌+◌, ◌-◌, ◌*◌, ◌/◌, ◌≤◌, List, length, max, min, slice_index}
+use Rattle.std.specs.Prelude.{ℕ, zero, suc, ◌≡◌, ◌+◌, ◌-◌, ◌*◌, ◌/◌, ◌^◌, ◌<◌, ◌≤◌, List, get_or, length, max, min, slice_index, Option, None, MatchOption, ⊤}
 use Rattle.ballot_base.specs.Ballots.{Row, hits}
+use Rattle.thiele_bounds.specs.declared.majorant.Majorant.{Majorant}
+use Rattle.thiele_bounds.specs.Steps.Majorants.{places_before, places_open}
 use Rattle.thiele_bounds.specs.Steps.Paired.{most_sum}
 
 -- what the hit after the first ones adds
@@ -73,3 +75,28 @@ row_constant sums shift set free left row =
     highest (lack sums (hits row.0 set) (row_worth sums shift set free left row)
     (row_overlap sums shift set free left row) (row_triple sums shift set free left row))
     (min left (hits row.0 free) + 1)
+
+-- what the cubics of ballots are made for: what each number of hits gives, how many eighths of a hit they are exact
+-- sooner, how many candidates are to join, and of how many
+pub record Cubed : Type 0 where
+  pub sums : List ℕ
+  pub shift : ℕ
+  pub left : ℕ
+  pub free : ℕ
+
+-- the cubic of a ballot by its hits before and the free candidates that it approves, without its triple
+pub record IsCubicOf (cubed : Cubed) (before approved : ℕ) (cubic : Majorant) : Type 0 where
+  pub worth_is : cubic.worth ≡ worth_at cubed.sums before (touch_of cubed.shift cubed.left cubed.free approved)
+  pub overlap_is : cubic.overlap ≡ overlap_of cubed.sums before (touch_of cubed.shift cubed.left cubed.free approved)
+  pub constant_is : cubic.constant ≡ highest (lack cubed.sums before
+      (worth_at cubed.sums before (touch_of cubed.shift cubed.left cubed.free approved))
+      (overlap_of cubed.sums before (touch_of cubed.shift cubed.left cubed.free approved))
+      (triple_at cubed.sums before (touch_of cubed.shift cubed.left cubed.free approved))) (min cubed.left approved + 1)
+  pub constant_small : cubic.constant ≤ most_sum cubed.sums * 2 ^ 13
+  pub worth_small : cubic.worth ≤ most_sum cubed.sums
+  pub overlap_small : cubic.overlap ≤ most_sum cubed.sums
+
+-- what was made are cubics, each at its place
+abbrev pub AreKept : Cubed → List (Option Majorant) → Type 0
+AreKept cubed table = (before approved : ℕ) → before < places_before → approved < places_open
+    → MatchOption (get_or table (places_open * before + approved) None) ⊤ (IsCubicOf cubed before approved)

@@ -6,7 +6,7 @@ use Rattle.ballot_base.specs.CandSet.{has_member}
 use Rattle.ballot_base.specs.Ballots.{Row, hits, voter_count}
 use Rattle.ballot_base.proofs.Turns.{row_of_turn, all_passed}
 use Rattle.tie_walk.proofs.RowSums.{length-common}
-use Rattle.thiele_bounds.specs.Steps.Cubics.{highest, lack, overlap_of, row_constant, row_overlap, row_triple, row_worth, touch_of, triple_at, worth_at}
+use Rattle.thiele_bounds.specs.Steps.Cubics.{Cubed, IsCubicOf, row_constant, row_overlap, row_worth}
 use Rattle.thiele_bounds.specs.Steps.Paired.{most_sum, overlap_at}
 use Rattle.thiele_bounds.specs.Steps.Threes.{AreCubics}
 use Rattle.row_multipliers.proofs.CompletionLemmas.{member-high}
@@ -22,6 +22,7 @@ pub loop-ballot-init : goal.loop-ballot-init
 loop-ballot-init g c =
     let nothing = c.requires.nothing in
     record {
+      made = c.new-cubics.ensures;
       cubics = record {
         constant_is = omega (arith, nothing.constant_none);
         worths_are = λ n here. omega (arith, nothing.worths_none n);
@@ -33,24 +34,20 @@ loop-ballot-init g c =
       small_overlaps = λ i j low. omega (arith, nothing.overlaps_none i j);
     }
 
-pub of-cubic-requires-clause-small : goal.of-cubic-requires-clause-small
-of-cubic-requires-clause-small g c = small-sums c.args.self.now.given.now
+pub new-cubics-requires-clause-small : goal.new-cubics-requires-clause-small
+new-cubics-requires-clause-small g c = small-sums c.args.self.now.given.now
 
-pub constant-requires-clause-small : goal.constant-requires-clause-small
-constant-requires-clause-small g c = small-sums c.args.self.now.given.now
-
-pub constant-requires-clause-fits : goal.constant-requires-clause-fits
-constant-requires-clause-fits g c =
+pub of_ballot-majorant-requires : goal.of_ballot-majorant-requires
+of_ballot-majorant-requires g c =
     let e = c.args.self.now.profile.now in
     let row : Row = (c.in-Some.ballot, c.in-Some.voters) in
     let at = row_of_turn e.rows (c.into_iter-ballot-iterator.ensures.into_iter_gives ∙ c.ballots-ballot-items.ensures.rows) c.loop-ballot.yielded c.loop-ballot.yielded_by row c.in-Some.ensures.steps in
     omega (
       arith,
-      c.min-most.ensures,
       c.len-before.ensures.count,
       ap length c.common.ensures,
       length-common c.in-Some.ballot c.args.node.now.set,
-      c.len-in-loop-ballot.ensures.count,
+      c.len.ensures.count,
       ap length c.common-approved.ensures,
       length-common c.in-Some.ballot c.args.node.now.free,
       hits-both e.m c.in-Some.ballot c.args.node.now.set c.args.node.now.free (row-up e c.ballots-ballot-items.ensures.valid (length c.loop-ballot.yielded) row at) c.ballots-ballot-items.ensures.valid.most c.requires.is_node,
@@ -68,13 +65,13 @@ add-requires g c =
     let inv = c.loop-ballot.invariant in
     let few : voter_count (take (i + 1) e.rows) ≤ voter_count e.rows = sum_by-take-le (λ (r : Row). r.1) e.rows (i + 1) in
     let fits : (voter_count (take i e.rows) + row.1) * all_give ≤ voter_count e.rows * all_give = mul-le-mul_right all_give (omega (arith, few, voters-more e valid i row at)) in
-    let small = c.of-cubic.ensures.small in
+    let small = subst (λ (x : Cubed). IsCubicOf x c.len-before.result c.len.result c.of_ballot-majorant.result) inv.made c.of_ballot-majorant.ensures.cubic in
     let top = (small-sums given).all_small in
-    let overlap : row.1 * c.of-cubic.result.overlap ≤ row.1 * all_give = mul-le-mul_left row.1 small.overlap_small in
+    let overlap : row.1 * c.of_ballot-majorant.result.overlap ≤ row.1 * all_give = mul-le-mul_left row.1 small.overlap_small in
     record {
       voters = omega (arith, voters-room e valid i row at);
       majorant = record {
-        constant_small = omega (arith, c.constant.ensures.small, top);
+        constant_small = omega (arith, small.constant_small, top);
         worth_small = omega (arith, small.worth_small, top);
         overlap_small = omega (arith, small.overlap_small, top);
       };
@@ -102,25 +99,17 @@ loop-ballot-preserved g c =
     let inv = c.loop-ballot.invariant in
     let valid = c.ballots-ballot-items.ensures.valid in
     let approved = c.common-approved.result in
-    let cubic = c.of-cubic.result in
+    let cubic = c.of_ballot-majorant.result in
+    let shift = c.args.self.now.shift in
+    let is = subst (λ (x : Cubed). IsCubicOf x c.len-before.result c.len.result c.of_ballot-majorant.result) inv.made c.of_ballot-majorant.ensures.cubic in
     let before : c.len-before.result ≡ hits row.0 set = c.len-before.ensures.count ∙ ap length c.common.ensures ∙ length-common row.0 set in
     let open_ : c.len.result ≡ hits row.0 free = c.len.ensures.count ∙ ap length c.common-approved.ensures ∙ length-common row.0 free in
-    let many : c.len-in-loop-ballot.result ≡ hits row.0 free = c.len-in-loop-ballot.ensures.count ∙ ap length c.common-approved.ensures ∙ length-common row.0 free in
-    let touch : c.touch_at.result ≡ touch_of c.args.self.now.shift node.left (length free) (hits row.0 free) = c.touch_at.ensures.value ∙ ap (touch_of c.args.self.now.shift node.left (length free)) open_ in
-    let worth : cubic.worth ≡ row_worth sums c.args.self.now.shift set free node.left row =
-    c.of-cubic.ensures.worth ∙ ap (λ n. worth_at sums n c.touch_at.result) before ∙ ap (worth_at sums (hits row.0 set)) touch in
-    let overlap : cubic.overlap ≡ row_overlap sums c.args.self.now.shift set free node.left row =
-    c.of-cubic.ensures.overlap ∙ ap (λ n. overlap_of sums n c.touch_at.result) before ∙ ap (overlap_of sums (hits row.0 set)) touch in
-    let triple : cubic.triple ≡ triple_at sums (hits row.0 set) (touch_of c.args.self.now.shift node.left (length free) (hits row.0 free)) =
-    c.of-cubic.ensures.triple ∙ ap (λ n. triple_at sums n c.touch_at.result) before ∙ ap (triple_at sums (hits row.0 set)) touch in
-    let most : c.min-most.result ≡ min node.left (hits row.0 free) = c.min-most.ensures ∙ ap (min node.left) many in
-    let constant : c.constant.result ≡ row_constant sums c.args.self.now.shift set free node.left row =
-    c.constant.ensures.value
-    ∙ ap (λ n. highest (lack sums n cubic.worth cubic.overlap cubic.triple) (c.min-most.result + 1)) before
-    ∙ ap (λ n. highest (lack sums (hits row.0 set) n cubic.overlap cubic.triple) (c.min-most.result + 1)) worth
-    ∙ ap (λ n. highest (lack sums (hits row.0 set) (row_worth sums c.args.self.now.shift set free node.left row) n cubic.triple) (c.min-most.result + 1)) overlap
-    ∙ ap (λ n. highest (lack sums (hits row.0 set) (row_worth sums c.args.self.now.shift set free node.left row) (row_overlap sums c.args.self.now.shift set free node.left row) n) (c.min-most.result + 1)) triple
-    ∙ ap (λ n. highest (lack sums (hits row.0 set) (row_worth sums c.args.self.now.shift set free node.left row) (row_overlap sums c.args.self.now.shift set free node.left row) (row_triple sums c.args.self.now.shift set free node.left row)) (n + 1)) most in
+    let row_is : IsCubicOf (record { sums = sums; shift = shift; left = node.left; free = length free }) (hits row.0 set) (hits row.0 free) cubic =
+    subst (λ n. IsCubicOf (record { sums = sums; shift = shift; left = node.left; free = length free }) (hits row.0 set) n cubic) open_
+    (subst (λ n. IsCubicOf (record { sums = sums; shift = shift; left = node.left; free = length free }) n c.len.result cubic) before is) in
+    let worth : cubic.worth ≡ row_worth sums shift set free node.left row = row_is.worth_is in
+    let overlap : cubic.overlap ≡ row_overlap sums shift set free node.left row = row_is.overlap_is in
+    let constant : cubic.constant ≡ row_constant sums shift set free node.left row = row_is.constant_is in
     let before_totals = c.loop-ballot.totals in
     let totals = c.add.new.self in
     let more : AreCubics sums c.args.self.now.shift (take (i + 1) e.rows) node totals.constant totals.worths totals.overlaps = record {
@@ -145,11 +134,12 @@ loop-ballot-preserved g c =
           ∙ sym (overlap-more e.rows i row at (row_overlap sums c.args.self.now.shift set free node.left) a b);
     } in
     let all_give = most_sum sums in
-    let small_constant : row.1 * c.constant.result ≤ row.1 * (all_give * 2 ^ 13) = mul-le-mul_left row.1 c.constant.ensures.small in
-    let small_worth : row.1 * cubic.worth ≤ row.1 * all_give = mul-le-mul_left row.1 c.of-cubic.ensures.small.worth_small in
-    let small_overlap : row.1 * cubic.overlap ≤ row.1 * all_give = mul-le-mul_left row.1 c.of-cubic.ensures.small.overlap_small in
+    let small_constant : row.1 * cubic.constant ≤ row.1 * (all_give * 2 ^ 13) = mul-le-mul_left row.1 is.constant_small in
+    let small_worth : row.1 * cubic.worth ≤ row.1 * all_give = mul-le-mul_left row.1 is.worth_small in
+    let small_overlap : row.1 * cubic.overlap ≤ row.1 * all_give = mul-le-mul_left row.1 is.overlap_small in
     let voters = ap (λ n. n * all_give) (voters-more e valid i row at) in
     record {
+      made = c.of_ballot-majorant.ensures.same ∙ inv.made;
       cubics = subst (λ n. AreCubics sums c.args.self.now.shift (take n e.rows) node totals.constant totals.worths totals.overlaps) next more;
       small_constant = subst (λ n. totals.constant ≤ voter_count (take n e.rows) * (all_give * 2 ^ 13)) next (omega (arith, c.add.ensures.constant, small_constant, voters, inv.small_constant));
       small_worths = λ n. subst (λ x. get_or totals.worths n 0 ≤ voter_count (take x e.rows) * (all_give * 2 ^ 8)) next
