@@ -63,7 +63,7 @@ impl Rough {
         let mut last = self.tried(candidates, count, guess.min(MOST_ROUGH));
         let mut least = last;
         for _turn in 1..TURNS {
-            if last.above == count || last.above.saturating_add(1) == count {
+            if last.is_near(count) {
                 break;
             }
             last = self.tried(candidates, count, last.nearer(count, mean));
@@ -106,7 +106,7 @@ impl Rough {
         }
         Excess {
             more,
-            above: above as u8,
+            above: above.min(255) as u8,
         }
     }
 }
@@ -128,6 +128,11 @@ struct Tried {
 }
 
 impl Tried {
+    /// Whether nearly `count` worths exceeded the threshold. Then others are hardly better.
+    fn is_near(self, count: u8) -> bool {
+        self.above.saturating_add(2) >= count && self.above <= count.saturating_add(1)
+    }
+
     /// The threshold that `count` worths exceed, if those above this one are spread evenly. If there are none, it is
     /// the mean.
     fn nearer(self, count: u8, mean: u64) -> u64
