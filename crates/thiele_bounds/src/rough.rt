@@ -52,8 +52,8 @@ impl Rough {
         self.each[usize::from(candidate)] = worth;
     }
 
-    /// A bound on the sum of the worths of `count` of the candidates, by a threshold that is nearly the best. All others
-    /// should be worth 0. A threshold is looked for about as far from the mean worth as the last one was.
+    /// A bound on the sum of the worths of `count` of the candidates, by a threshold that is nearly the best. All
+    /// others should be worth 0. A threshold is looked for about as far from the mean worth as the last one was.
     pub(crate) fn bound(&mut self, candidates: CandSet, count: u8) -> u64
         ensures { IsBound self.old candidates count result }
     {

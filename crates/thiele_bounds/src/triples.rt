@@ -165,8 +165,9 @@ struct Bends {
     triples: [u64; PLACES],
 }
 
-/// For each two free candidates, puts their part of the worths of three in the place of their overlap: half of the worth
-/// of each, and by how much their overlap is below the greatest, once for each of the others. It is rounded up.
+/// For each two free candidates, puts their part of the worths of three in the place of their overlap: half of the
+/// worth of each, and by how much their overlap is below the greatest, once for each of the others that join. It is
+/// rounded up.
 fn share_pairs(pairs: &mut Table, worths: &Worths, node: &Node, most: u64)
     requires { CanShare worths.now pairs.old node.now.free node.now.left most }
     ensures { AreShared worths.now pairs.old node.now.free node.now.left most pairs.new }
@@ -429,17 +430,31 @@ struct Cubics<'a> {
 impl<'a> Model for Cubics<'a> {
     ghost Value = { Cubed };
 
-    ghost view = { λ t. record { sums = t.sums.now; shift = t.shift; left = t.node.now.left; free = length t.node.now.free } };
+    ghost view = { λ t. record {
+      sums = t.sums.now;
+      shift = t.shift;
+      left = t.node.now.left;
+      free = length t.node.now.free;
+    } };
 
-    ghost invariant = { λ t. (1 ≤ length t.node.now.free) × AreSmallSums t.sums.now
-        × AreKept (record { sums = t.sums.now; shift = t.shift; left = t.node.now.left; free = length t.node.now.free }) t.table };
+    ghost invariant = { λ t. (1 ≤ length t.node.now.free) × AreSmallSums t.sums.now × AreKept (record {
+      sums = t.sums.now;
+      shift = t.shift;
+      left = t.node.now.left;
+      free = length t.node.now.free;
+    }) t.table };
 }
 
 impl<'a> Cubics<'a> {
     fn new(sums: &'a [u64; PLACES], node: &'a Node, shift: u8) -> Cubics<'a>
         requires some { 1 ≤ length node.now.free }
         requires small { AreSmallSums sums.now }
-        ensures { result ≡ record { sums = sums.now; shift = shift; left = node.now.left; free = length node.now.free } }
+        ensures { result ≡ record {
+          sums = sums.now;
+          shift = shift;
+          left = node.now.left;
+          free = length node.now.free;
+        } }
     {
         Cubics {
             sums,

@@ -1,5 +1,5 @@
 -- Worths of three, by the parts of pairs.
-use Rattle.std.proofs.Common.{◌≡◌, ℕ, ◌+◌, ◌-◌, ◌*◌, ◌/◌, ◌^◌, ◌<◌, ◌≤◌, ◌==◌, ◌∙◌, ◌&&◌, not, Bool, true, false, List, [], ◌∷◌, refl, sym, ap, arith, inl, inr, cond, get_or, length, max, min, sum_by, nat_le}
+use Rattle.std.proofs.Common.{◌≡◌, ℕ, ◌+◌, ◌-◌, ◌*◌, ◌/◌, ◌^◌, ◌<◌, ◌≤◌, ◌==◌, ◌∙◌, ◌&&◌, not, Bool, true, false, List, [], ◌∷◌, refl, sym, ap, arith, inl, inr, cond, get_or, max, sum_by, nat_le}
 use Rattle.std.specs.Prelude.{slice_index}
 use mir.Val.{bool_byte}
 use Rattle.std.proofs.Math.Nat.{mul-le-mul}
@@ -12,12 +12,11 @@ use Rattle.row_multipliers.proofs.CompletionLemmas.{and-true, member-high, witho
 use Rattle.row_multipliers.proofs.MemberLemmas.{first-gone}
 use Rattle.thiele_bounds.specs.Steps.Paired.{overlap_at, pair_place, triangle}
 use Rattle.thiele_bounds.specs.Steps.Places.{tetrahedron, triple_place, word_of}
-use Rattle.thiele_bounds.specs.Steps.Threes.{ArePlaces, AreShared, IsPart, AreThrees, most_part, roughly, three_at, three_of, three_rough, worth_by}
+use Rattle.thiele_bounds.specs.Steps.Threes.{ArePlaces, AreShared, IsPart, AreThrees, most_part, roughly, three_at, three_rough, worth_by}
 use Rattle.thiele_bounds.specs.declared.pairs.Totals.{Totals}
 use Rattle.thiele_bounds.specs.declared.triples.Threes.{Threes}
 use Rattle.thiele_bounds.proofs.PairBounds.OverlapLemmas.{pair-within, place-turned}
 use Rattle.thiele_bounds.proofs.PairBounds.PairLemmas.{sum-apart}
-use Rattle.thiele_bounds.proofs.PairBounds.PlaceLemmas.{upto-among, upto-before, upto-same}
 use Rattle.thiele_bounds.proofs.PairBounds.TripleLemmas.{rest-rises}
 use Rattle.thiele_bounds.proofs.PairBounds.TurnLemmas.{place-is, room-within}
 
@@ -131,7 +130,7 @@ module _ (threes : Threes) (are : AreThrees threes) where
     placed : (l ≡ i → ⊥) → (l ≡ j → ⊥) → a ≡ pair_place i j → b ≡ pair_place i l → c ≡ pair_place j l → d ≡ triple_place i j l → Placed
     placed apart other first second third triple = (
       places-same a b c d (pair_place i j) (pair_place i l) (pair_place j l) (triple_place i j l) first second third triple
-      (three-places i j l one two three (λ same. absurd (omega (arith, same, order))) apart other),
+          (three-places i j l one two three (λ same. absurd (omega (arith, same, order))) apart other),
       worth-same a b c d (pair_place i j) (pair_place i l) (pair_place j l) (triple_place i j l) first second third triple,
     )
 

@@ -76,8 +76,8 @@ pub record CanShare (worths overlaps free : List ℕ) (left most : ℕ) : Type 0
   pub worths_small : (n : ℕ) → slice_index worths n ≤ 2 ^ 66
   pub most_small : most ≤ 2 ^ 58
 
--- rounded, at least half of the worth of each, and by how much their overlap is below the greatest, once for each of the
--- others
+-- rounded, at least half of the worth of each, and by how much their overlap is below the greatest, once for each of
+-- the others that join
 pub record IsPart (worths overlaps : List ℕ) (left most i j part : ℕ) : Type 0 where
   pub enough : slice_index worths i + slice_index worths j + 2 * (left - 1) * (most - overlap_at overlaps i j)
       ≤ 2 * roughly * part

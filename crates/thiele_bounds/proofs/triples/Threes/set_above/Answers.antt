@@ -1,13 +1,12 @@
-use Rattle.std.proofs.Common.{◌≡◌, ℕ, ◌+◌, ◌-◌, ◌<◌, ◌≤◌, ◌∙◌, true, sym, ap, arith}
+use Rattle.std.proofs.Common.{◌≡◌, ◌+◌, ◌∙◌, true, ap, arith}
 use Rattle.ballot_base.specs.CandSet.{has_member, members_upto, other_members}
 use Rattle.ballot_base.specs.Limits.{most_candidates}
-use Rattle.row_multipliers.proofs.CompletionLemmas.{member-high, member-low}
+use Rattle.row_multipliers.proofs.CompletionLemmas.{member-high}
 use Rattle.row_multipliers.proofs.MemberLemmas.{first-in, later-in}
 use Rattle.row_multipliers.proofs.SearchLemmas.{rest-increasing}
 use Rattle.thiele_bounds.specs.Steps.Threes.{ArePlaces, three_rough, worth_by}
 use Rattle.thiele_bounds.proofs.PairBounds.OverlapLemmas.{one-made}
 use Rattle.thiele_bounds.proofs.PairBounds.PartLemmas.{after-in, after-is, above-placed, kept-more, not-true}
-use Rattle.thiele_bounds.proofs.PairBounds.PlaceLemmas.{upto-among, upto-before, upto-same}
 use Rattle.thiele_bounds.proofs.triples.Threes.set_above.Goals as goal
 use Rattle.thiele_bounds.proofs.triples.Threes.set_above.Goals.{After-plane_start}
 

@@ -1,4 +1,4 @@
-use Rattle.std.proofs.Common.{◌≡◌, ℕ, ◌-◌, true, false, get_or}
+use Rattle.std.proofs.Common.{◌≡◌, ℕ, true, false, get_or}
 use Rattle.ballot_base.specs.CandSet.{has_member, members_upto, other_members}
 use Rattle.ballot_base.specs.Limits.{most_candidates}
 use Rattle.ballot_base.specs.Lists.{IsIncreasing}

@@ -1,7 +1,7 @@
-use Rattle.std.proofs.Common.{◌≡◌, ℕ, ◌+◌, ◌-◌, ◌<◌, ◌≤◌, ◌∙◌, true, sym, ap, arith}
+use Rattle.std.proofs.Common.{◌≡◌, ◌+◌, ◌-◌, ◌≤◌, ◌∙◌, true, ap, arith}
 use Rattle.ballot_base.specs.CandSet.{has_member, members_upto, other_members}
 use Rattle.ballot_base.specs.Limits.{most_candidates}
-use Rattle.row_multipliers.proofs.CompletionLemmas.{member-high, member-low}
+use Rattle.row_multipliers.proofs.CompletionLemmas.{member-high}
 use Rattle.row_multipliers.proofs.MemberLemmas.{first-in, later-in}
 use Rattle.row_multipliers.proofs.SearchLemmas.{rest-increasing}
 use Rattle.thiele_bounds.specs.Steps.Threes.{ArePlaces, three_rough, worth_by}
