@@ -8,8 +8,10 @@ pub(crate) const RARE: Limits = Limits {
     margin: 3,
 };
 
-/// The cost of counting pairs at a node, with 500 as with 5,000 different ballots.
-pub(crate) const PAIRS: u64 = 20;
+/// The cost of counting pairs at a node: 20 visits with 500 ballots as with 5,000, and fewer with few ballots.
+pub(crate) fn pairs(rows: usize) -> u64 {
+    (4 + rows as u64 / 32).min(20)
+}
 
 /// About how many rounds move the multipliers of a node.
 const FIRST_ROUNDS: u64 = 6;
@@ -36,5 +38,5 @@ pub(crate) fn triples(rows: usize, free: u8) -> u64 {
     let free = u64::from(free);
     let rows = rows as u64;
     free.saturating_mul(rows.saturating_add(4 * free * free))
-        / rows.saturating_mul(2).saturating_add(120)
+        / rows.saturating_mul(8).saturating_add(480)
 }

@@ -100,6 +100,7 @@ impl<'a, A: Allocator + Copy> ThieleSearch<'a, A> {
                     moved.rounds,
                 ));
                 self.triples.work(work);
+                self.symmetries.work(work);
                 self.moves.note(node, work, moved.free)
             }
             _ => Some(node.free),
@@ -145,9 +146,14 @@ impl<'a, A: Allocator + Copy> ThieleSearch<'a, A> {
         let uses = &self.aids.uses.pairs;
         let is_long = uses.are_due() && self.counts_pairs.get();
         let is_due = is_long && node.left >= fewest_seats(self.values.rule());
-        let work = if is_due { costs::PAIRS } else { 1 };
+        let work = if is_due {
+            costs::pairs(self.values.profile().rows())
+        } else {
+            1
+        };
         self.moves.work(work);
         self.triples.work(work);
+        self.symmetries.work(work);
         if !is_due {
             return Some(node.free);
         }
@@ -234,6 +240,7 @@ impl<'a, A: Allocator + Copy> ThieleSearch<'a, A> {
         }
         let work = costs::triples(self.values.profile().rows(), node.free.len());
         self.moves.work(work);
+        self.symmetries.work(work);
         self.triples.note(node, work, self.by_triples(node, least))
     }
 
