@@ -83,6 +83,12 @@ impl Payoff {
     pub fn begin(&self) {
         self.done.set(0);
         self.lost.set(0);
+        for level in &self.levels {
+            level.update(|level| Level {
+                open: None,
+                ..level
+            });
+        }
     }
 
     /// Counts work, in visits.
@@ -153,8 +159,8 @@ struct Level {
     cost: Mean,
     // The work below a node where the bound was not made.
     below: Mean,
-    // All work up to the beginning of the node whose work below is being counted.
-    open: Option<u64>,
+    // All work up to the beginning of the node whose work below is being counted, modulo 2^32.
+    open: Option<u32>,
 }
 
 impl Level {
@@ -182,10 +188,12 @@ impl Level {
         below.saturating_mul(u64::from(self.success.value)) / u64::from(PARTS)
     }
 
-    /// Ends the count of the work below a node. A count of an earlier search ends without a number.
+    /// Ends the count of the work below a node.
     fn closed(self, done: u64) -> Level {
-        let below = match self.open.and_then(|before| done.checked_sub(before)) {
-            Some(work) => self.below.with(work),
+        let below = match self.open {
+            Some(before) => self
+                .below
+                .with(u64::from(low_half(done).wrapping_sub(before))),
             None => self.below,
         };
         Level {
@@ -199,7 +207,7 @@ impl Level {
     fn entered(self, done: u64) -> Level {
         Level {
             nodes: self.nodes.wrapping_add(1),
-            open: Some(done),
+            open: Some(low_half(done)),
             ..self
         }
     }
@@ -214,6 +222,11 @@ impl Level {
             ..self
         }
     }
+}
+
+/// A number modulo 2^32.
+fn low_half(number: u64) -> u32 {
+    (number % (1 << 32)) as u32
 }
 
 /// About how many of the last numbers a mean is of, so that old ones are forgotten.

@@ -40,10 +40,6 @@ use tie_walk::Tally;
 /// With fewer seats left there are no triples.
 const FEWEST_SEATS: u8 = 3;
 
-/// The maximum size of a set at which pairs are counted in a search. Their tables take 28 KB of stack, and each member
-/// of the set has taken some already.
-const MOST_WITH_PAIRS: u8 = 30;
-
 /// With more voters, good committees have about as many hits as random ones.
 const MANY_VOTERS: u64 = 1_000;
 
@@ -149,9 +145,7 @@ impl<'a, A: Allocator + Copy> ThieleSearch<'a, A> {
     {
         let uses = &self.aids.uses.pairs;
         let is_long = uses.are_due() && self.counts_pairs.get();
-        let is_due = is_long
-            && node.left >= fewest_seats(self.values.rule())
-            && node.set.len() <= MOST_WITH_PAIRS;
+        let is_due = is_long && node.left >= fewest_seats(self.values.rule());
         let work = if is_due {
             costs::pairs(self.values.profile().rows())
         } else {

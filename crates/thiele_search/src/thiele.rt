@@ -23,6 +23,9 @@ use thiele_bounds::{HitSums, Priced, TripleMemory};
 use tie_search::{Searchable, Tied, WithClones, descent};
 use tie_walk::{Tally, ThieleTally};
 
+/// Most questions are answered after fewer sets. Then majorants at the root, which take as long, are not asked for.
+const FEW_SETS: u64 = 64;
+
 /// All memory for a search among the committees of `k` under a Thiele rule, and the columns in it. Contracts see the
 /// election, the rule and `k`.
 #[derive(Drop)]
@@ -182,8 +185,13 @@ impl<'a, A: Allocator + Copy> Searchable for ThieleSearch<'a, A> {
         // party lists took six times as long. So majorants come only where they help: in elections of grids, graphs and
         // designs.
         let help = self.aids.uses.roots.are_due();
-        if help && self.falls_short(node, least) {
-            return None;
+        if help {
+            if let Ok(found) = descent::find_within(self, *node, least, FEW_SETS) {
+                return found;
+            }
+            if self.falls_short(node, least) {
+                return None;
+            }
         }
         self.counts_pairs.set(help);
         self.moves.begin();
