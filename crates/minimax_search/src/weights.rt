@@ -165,7 +165,9 @@ impl<A: Allocator + Copy> NeedSearch<'_, A> {
         }
         self.rows.raise(node.left);
         let moved = self.narrowed(node);
-        moves.note(node, ROUND * u64::from(moved.rounds), moved.free)
+        let work = ROUND * u64::from(moved.rounds);
+        moves.work(work);
+        moves.note(node, work, moved.free)
     }
 
     /// Moves the weights until no completion of the node is near each ballot, or the gap closes too slowly.

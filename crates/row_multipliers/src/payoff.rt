@@ -17,6 +17,10 @@ use std::marker::Model;
 /// it was too high, and 40 random candidates took fifteen times as long under `cc`.
 const LEFT_ALONE: u32 = 16;
 
+/// As often, the bound is made although it seems to cost up to this many times what it saves: the first nodes may cost
+/// more than those that follow. Never made again, 40 random candidates took up to 1.7 times as long under `cc`.
+const TRIED_AGAIN: u64 = 8;
+
 /// The number of nodes, for a number of seats left, whose work below has to be known.
 const FEWEST_KNOWN: u32 = 4;
 
@@ -119,9 +123,14 @@ impl Payoff {
         let level = level.get();
         let cost = u64::from(level.cost.value);
         let lost = self.lost.get().saturating_add(cost);
+        let hope = match level.nodes % LEFT_ALONE {
+            0 => return false,
+            1 => TRIED_AGAIN,
+            _ => 1,
+        };
+        let saved = level.saved(self.work_below(left)).saturating_mul(hope);
         lost <= self.done.get() / self.limits.lost_share.max(1)
-            && level.nodes % LEFT_ALONE != 0
-            && level.saved(self.work_below(left)) / self.limits.margin.max(1) >= cost
+            && saved / self.limits.margin.max(1) >= cost
     }
 
     /// The work below a node with `left` seats left, as far as it is known: at least that with fewer seats left.
@@ -133,11 +142,11 @@ impl Payoff {
         most
     }
 
-    /// Notes the answer of the bound at the node that was entered last, which took this work, and returns it.
+    /// Notes the answer of the bound at the node that was entered last, and returns it. It took this work, which is
+    /// counted apart.
     pub fn note(&self, node: &Node, work: u64, answer: Option<CandSet>) -> Option<CandSet>
         ensures { result ≡ answer }
     {
-        self.work(work);
         if let Some(level) = self.levels.get(usize::from(node.left)) {
             let saved = u64::from(level.get().below.value);
             self.lost.update(|lost| match answer {

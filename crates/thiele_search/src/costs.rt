@@ -8,6 +8,17 @@ pub(crate) const RARE: Limits = Limits {
     margin: 3,
 };
 
+/// Of lean searches. With a margin of 2, parties took half as long again.
+pub(crate) const LEAN: Limits = Limits { margin: 1, ..RARE };
+
+/// How many branches a lean search enters, about.
+pub(crate) const FIRST_BRANCHES: u64 = 64;
+
+/// The cost of a lean search that enters this many branches: that of its table, and an eighth of a visit for each.
+pub(crate) fn lean_search(branches: u64) -> u64 {
+    2 + branches / 8
+}
+
 /// The cost of counting pairs at a node: 20 visits with 500 ballots as with 5,000, and fewer with few ballots.
 pub(crate) fn pairs(rows: usize) -> u64 {
     (4 + rows as u64 / 32).min(20)

@@ -26,7 +26,7 @@ use crate::dominance::Dominance;
 use crate::symmetry::MOST_CHOSEN;
 use crate::thiele::ThieleSearch;
 use crate::trials::{FEW_SEATS, Uses};
-use crate::uncovered::{FEWEST_LEFT, MOST_LEFT, Uncovered};
+use crate::uncovered::{MOST_LEFT, Uncovered};
 use ballot_base::{CandSet, Clones, ThieleRule, Worths};
 use row_multipliers::Node;
 use row_multipliers::multipliers::{self, Effort};
@@ -56,7 +56,32 @@ pub(crate) struct Aids<A: Allocator> {
     pub(crate) uses: Uses,
 }
 
+/// What a lean search shows.
+#[derive(Clone, Copy)]
+struct LeanSearch {
+    /// Whether no completion of the set reaches the value. Only `true` is certain.
+    refutes: bool,
+    /// The number of branches that were entered.
+    branches: u64,
+}
+
+impl LeanSearch {
+    /// Nothing was searched.
+    const NONE: LeanSearch = LeanSearch {
+        refutes: false,
+        branches: 0,
+    };
+}
+
 impl<'a, A: Allocator + Copy> ThieleSearch<'a, A> {
+    /// Counts work, in visits, for all that is judged by it.
+    fn work(&self, visits: u64) {
+        self.moves.work(visits);
+        self.triples.work(visits);
+        self.lean.work(visits);
+        self.symmetries.work(visits);
+    }
+
     /// The free candidates of a node that can still join, by the gains of its set or of a set with fewer members.
     /// Returns `None` only if no completion of the set reaches the value.
     fn promising(&self, gains: &Worths, node: &Node, value: u128, least: u128) -> Option<CandSet>
@@ -99,8 +124,7 @@ impl<'a, A: Allocator + Copy> ThieleSearch<'a, A> {
                 let work = costs::round(rows, self.values.rule()).saturating_mul(u64::from(
                     moved.rounds,
                 ));
-                self.triples.work(work);
-                self.symmetries.work(work);
+                self.work(work);
                 self.moves.note(node, work, moved.free)
             }
             _ => Some(node.free),
@@ -151,49 +175,51 @@ impl<'a, A: Allocator + Copy> ThieleSearch<'a, A> {
         } else {
             1
         };
-        self.moves.work(work);
-        self.triples.work(work);
-        self.symmetries.work(work);
+        self.work(work);
         if !is_due {
             return Some(node.free);
         }
         uses.note(self.by_majorants(node, least, Shape::Quadratic))
     }
 
-    /// Like `eligible`, but by a lean search under `cc`, if few seats are left and such searches help.
+    /// Like `eligible`, but by a lean search under `cc`, if few seats are left and it is worth its work.
     fn by_uncovered(&self, node: &Node, value: u128, least: u128) -> Option<CandSet>
         requires is_node { IsNode self.now.election.m node.now.set node.now.free }
         requires valued { IsValued self.now node.now.set value }
         ensures { Narrows (tally_value self.now) self.now.election.m node.now least result }
     {
-        let uses = &self.aids.uses.uncovered;
-        let is_few = node.left >= FEWEST_LEFT && node.left <= MOST_LEFT;
-        if self.values.rule() != ThieleRule::Cc || !is_few || !uses.are_due() {
+        let is_few = node.left <= MOST_LEFT;
+        if self.values.rule() != ThieleRule::Cc || !is_few || !self.lean.is_due(node.left) {
             return Some(node.free);
         }
-        let may_reach = !self.is_refuted(node, value, least);
-        uses.note(may_reach.then_some(node.free))
+        let search = self.lean_search(node, value, least);
+        let work = costs::lean_search(search.branches);
+        self.work(work);
+        self.lean
+            .note(node, work, (!search.refutes).then_some(node.free))
     }
 
-    /// Whether a lean search shows under `cc` that no completion of the set of a node reaches the value. Only `true` is
-    /// certain.
+    /// Searches the completions of the set of a node for the value, under `cc`, where few voters are without a hit.
     // Not inlined: its tables take 5 KB of stack, which would lie at each level of a search.
     #[inline(never)]
-    fn is_refuted(&self, node: &Node, value: u128, least: u128) -> bool
+    fn lean_search(&self, node: &Node, value: u128, least: u128) -> LeanSearch
         requires rule { self.now.rule ≡ Cc }
         requires some { 1 ≤ self.now.k }
         requires is_node { IsNode self.now.election.m node.now.set node.now.free }
         requires valued { IsValued self.now node.now.set value }
-        ensures { result ≡ true → IsOutOfReach (tally_value self.now) self.now.election.m node.now.set node.now.free
-            node.now.left least }
+        ensures { result.refutes ≡ true → IsOutOfReach (tally_value self.now) self.now.election.m node.now.set
+            node.now.free node.now.left least }
     {
         let Some(due) = least.checked_sub(value) else {
-            return false;
+            return LeanSearch::NONE;
         };
         let due = due.min(u128::from(u32::MAX));
         match Uncovered::of(self.values.profile(), node) {
-            Some(table) => table.refutes(node.left, due as u32),
-            None => false,
+            Some(table) => LeanSearch {
+                refutes: table.refutes(node.left, due as u32),
+                branches: table.branches.get(),
+            },
+            None => LeanSearch::NONE,
         }
     }
 
@@ -239,8 +265,7 @@ impl<'a, A: Allocator + Copy> ThieleSearch<'a, A> {
             return Some(node.free);
         }
         let work = costs::triples(self.values.profile().rows(), node.free.len());
-        self.moves.work(work);
-        self.symmetries.work(work);
+        self.work(work);
         self.triples.note(node, work, self.by_triples(node, least))
     }
 
@@ -365,6 +390,7 @@ impl<'a, A: Allocator + Copy> Narrowing for ThieleSearch<'a, A> {
     fn plan(&self, node: &Node, value: u128, least: u128) -> Option<Plan> {
         self.moves.enter(node.left);
         self.triples.enter(node.left);
+        self.lean.enter(node.left);
         self.symmetries.enter(node.left);
         let free = self.eligible_at_entry(node, value, least)?;
         let gains = self.gains_at(node.set, free);

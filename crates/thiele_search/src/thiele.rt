@@ -8,7 +8,7 @@ ghost use Rattle.tie_walk.specs.Ceilings.{ceiling};
 ghost use Rattle.thiele_search.specs.Steps.Aided.{IsAided, IsMemoryFor, IsValued};
 
 use crate::columns::Columns;
-use crate::costs::{self, RARE};
+use crate::costs::{self, FIRST_BRANCHES, LEAN, RARE};
 use crate::dominance::Dominance;
 use crate::search::Aids;
 use crate::symmetry::Symmetries;
@@ -84,6 +84,8 @@ pub struct ThieleSearch<'a, A: Allocator + Copy = Global> {
     pub(crate) moves: Payoff,
     // Where it pays to count triples, over all questions so far.
     pub(crate) triples: Payoff,
+    // Where a lean search pays, over all questions so far.
+    pub(crate) lean: Payoff,
     // Permutations of the candidates that keep the election.
     pub(crate) symmetries: Symmetries,
 }
@@ -119,6 +121,7 @@ impl<'a, A: Allocator + Copy + Drop> ThieleSearch<'a, A> {
             counts_pairs: Cell::new(false),
             moves: Payoff::new(RARE, costs::moves(profile.rows(), rule)),
             triples: Payoff::new(RARE, costs::triples(profile.rows(), m)),
+            lean: Payoff::new(LEAN, costs::lean_search(FIRST_BRANCHES)),
             symmetries: Symmetries::none(),
         };
         let good = search.grown(k);

@@ -47,14 +47,6 @@ const PAIRS: Limits = Limits {
     sample: 256,
 };
 
-/// A lean search takes longer than a set, and a short search ends sooner without. Made from the first set on, and ahead
-/// of prices, elections of voters on a line took twice the instructions.
-const UNCOVERED: Limits = Limits {
-    begin: 4096,
-    trials: 64,
-    sample: 64,
-};
-
 /// Majorants of both shapes take as long as hundreds of sets, so they have to help at the first root: that of the whole
 /// election. Asked for at the root of each question that is not answered after 64 sets, noise round one ballot took
 /// twice the instructions.
@@ -71,7 +63,6 @@ pub(crate) struct Uses {
     pub(crate) prices: Trials,
     pub(crate) pairs: Trials,
     pub(crate) roots: Trials,
-    pub(crate) uncovered: Trials,
 }
 
 impl Uses {
@@ -81,7 +72,6 @@ impl Uses {
             prices: Trials::none(QUICK),
             pairs: Trials::none(PAIRS),
             roots: Trials::none(ROOTS),
-            uncovered: Trials::none(UNCOVERED),
         }
     }
 }

@@ -25,15 +25,13 @@ use crate::columns::{BLOCK_VOTERS, Block, add_row};
 use ballot_base::{CandSet, PLACES, Profile};
 use row_multipliers::Node;
 use std::alloc::Allocator;
+use std::cell::Cell;
 
 /// The number of blocks of a table. With more voters there is no table.
 const TABLE_BLOCKS: usize = 4;
 
 /// With more seats left there is no lean search.
 pub(crate) const MOST_LEFT: u8 = 7;
-
-/// With fewer seats left, a table takes longer than the usual search.
-pub(crate) const FEWEST_LEFT: u8 = 3;
 
 /// The maximum number of thresholds that are tried for a set.
 const TURNS: u8 = 5;
@@ -65,6 +63,8 @@ pub(crate) struct Uncovered<'a, A: Allocator + Copy> {
     pub(crate) set: CandSet,
     pub(crate) free: CandSet,
     pub(crate) blocks: [Block; TABLE_BLOCKS],
+    /// The number of branches that were entered.
+    pub(crate) branches: Cell<u64>,
     ghost few: { length (uncovered_voters profile.now.rows set free) ≤ table_blocks * block_voters },
     ghost columns: { AreColumns (uncovered_voters profile.now.rows set free) blocks },
 }
@@ -100,6 +100,7 @@ impl<'a, A: Allocator + Copy> Uncovered<'a, A> {
             set: node.set,
             free: node.free,
             blocks,
+            branches: Cell::new(0),
         })
     }
 
@@ -132,6 +133,7 @@ impl<'a, A: Allocator + Copy> Uncovered<'a, A> {
         requires few { branch.now.left ≤ most_left }
         ensures { result ≡ true → FallsShort self.now.profile.now branch.now }
     {
+        self.branches.update(|branches| branches.wrapping_add(1));
         if branch.left == 0 {
             return false;
         }

@@ -6,11 +6,11 @@ use Rattle.row_multipliers.proofs.NarrowedLemmas.{narrowed-none}
 use Rattle.thiele_search.proofs.CoverLemmas.{by-condition}
 use Rattle.thiele_search.proofs.thiele.ThieleSearch.by_uncovered.Goals as goal
 
-pub is_refuted-may_reach-requires-clause-rule : goal.is_refuted-may_reach-requires-clause-rule
-is_refuted-may_reach-requires-clause-rule g c = search rules
+pub lean_search-search-requires-clause-rule : goal.lean_search-search-requires-clause-rule
+lean_search-search-requires-clause-rule g c = search rules
 
-pub is_refuted-may_reach-requires-clause-some : goal.is_refuted-may_reach-requires-clause-some
-is_refuted-may_reach-requires-clause-some g c = (rw c.self.view_is at c.self.invariant).some
+pub lean_search-search-requires-clause-some : goal.lean_search-search-requires-clause-some
+lean_search-search-requires-clause-some g c = (rw c.self.view_is at c.self.invariant).some
 
 not-false : (b : Bool) → not b ≡ false → b ≡ true
 not-false true is = refl
@@ -21,6 +21,6 @@ returns g c =
     let V = tally_value c.args.self.now in
     let m = c.args.self.now.election.m in
     let node = c.args.node.now in
-    by-condition (not c.is_refuted-may_reach.result) node.free (IsOutOfReach V m node.set node.free node.left c.args.least) (IsNarrowed V m node.set node.free node.left c.args.least)
-    (λ short. c.is_refuted-may_reach.ensures (not-false c.is_refuted-may_reach.result short))
+    by-condition (not c.lean_search-search.result.refutes) node.free (IsOutOfReach V m node.set node.free node.left c.args.least) (IsNarrowed V m node.set node.free node.left c.args.least)
+    (λ short. c.lean_search-search.ensures (not-false c.lean_search-search.result.refutes short))
     (narrowed-none V m node.set node.free node.left c.args.least c.requires.is_node) c.note.result (c.note.ensures ∙ c.then_some.ensures)

@@ -1,5 +1,5 @@
 use Rattle.std.proofs.Common.{◌∙◌}
-use Rattle.thiele_search.proofs.thiele.ThieleSearch.is_refuted.Goals as goal
+use Rattle.thiele_search.proofs.thiele.ThieleSearch.lean_search.Goals as goal
 
 pub refutes-requires-clause-valid : goal.refutes-requires-clause-valid
 refutes-requires-clause-valid g c = rw (c.in-Some-of.ensures.0 ∙ c.profile.ensures, c.self.view_is) c.requires.valued.election
