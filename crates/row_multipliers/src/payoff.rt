@@ -17,10 +17,6 @@ use std::marker::Model;
 /// it was too high, and 40 random candidates took fifteen times as long under `cc`.
 const LEFT_ALONE: u32 = 16;
 
-/// As often, the bound is made although it seems to cost up to this many times what it saves: the first nodes may cost
-/// more than those that follow. Never made again, 40 random candidates took up to 1.7 times as long under `cc`.
-const TRIED_AGAIN: u64 = 8;
-
 /// The number of nodes, for a number of seats left, whose work below has to be known.
 const FEWEST_KNOWN: u32 = 4;
 
@@ -48,6 +44,9 @@ pub struct Limits {
     /// How many times its cost the bound has to save. Below the first nodes there is far more work than below others,
     /// so that a bound seems to pay.
     pub margin: u64,
+    /// At one node in 16 the bound is tried again if it seems to cost up to this many times what it saves, since the
+    /// first nodes may cost more than those that follow.
+    pub hope: u64,
 }
 
 /// What a bound achieves, and what it costs, by the number of seats left. The unit of work is a visit to a set.
@@ -125,7 +124,7 @@ impl Payoff {
         let lost = self.lost.get().saturating_add(cost);
         let hope = match level.nodes % LEFT_ALONE {
             0 => return false,
-            1 => TRIED_AGAIN,
+            1 => self.limits.hope,
             _ => 1,
         };
         let saved = level.saved(self.work_below(left)).saturating_mul(hope);

@@ -6,10 +6,16 @@ use row_multipliers::payoff::Limits;
 pub(crate) const RARE: Limits = Limits {
     lost_share: 64,
     margin: 3,
+    hope: 1,
 };
 
-/// Of lean searches. With a margin of 2, parties took half as long again.
-pub(crate) const LEAN: Limits = Limits { margin: 1, ..RARE };
+/// Of lean searches. With a margin of 2, parties took half as long again, and 40 random candidates took up to 1.7 times
+/// as long if a lean search was not tried again.
+pub(crate) const LEAN: Limits = Limits {
+    margin: 1,
+    hope: 8,
+    ..RARE
+};
 
 /// How many branches a lean search enters, about.
 pub(crate) const FIRST_BRANCHES: u64 = 64;
