@@ -2,11 +2,12 @@
 use ballot_base::ThieleRule;
 use row_multipliers::payoff::Limits;
 
-/// Of moved multipliers, and of triples. Of 500 random voters, or of noisy parties, many nodes end by neither.
+/// Of moved multipliers, and of triples. Of 500 random voters, or of noisy parties, many nodes end by neither. If moves
+/// were not tried again, party lists took three times as long under `cc`.
 pub(crate) const RARE: Limits = Limits {
     lost_share: 64,
     margin: 3,
-    hope: 1,
+    hope: 4,
 };
 
 /// Of lean searches. With a margin of 2, parties took half as long again, and 40 random candidates took up to 1.7 times
