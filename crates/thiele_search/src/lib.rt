@@ -15,8 +15,8 @@
 mod colours;
 mod columns;
 mod costs;
+mod counts;
 mod dominance;
-mod good;
 pub mod laws;
 mod matching;
 mod permutations;

@@ -10,7 +10,7 @@ pub is_refuted-may_reach-requires-clause-rule : goal.is_refuted-may_reach-requir
 is_refuted-may_reach-requires-clause-rule g c = search rules
 
 pub is_refuted-may_reach-requires-clause-some : goal.is_refuted-may_reach-requires-clause-some
-is_refuted-may_reach-requires-clause-some g c = (rw c.self.view_is at c.self.invariant).some
+is_refuted-may_reach-requires-clause-some g c = (rw c.self.view_is at c.self.inside.counts.sound).some
 
 not-false : (b : Bool) → not b ≡ false → b ≡ true
 not-false true is = refl
