@@ -1,4 +1,4 @@
-//! What sets of candidates are worth and what they gain, and by these counts a good committee to begin with.
+//! The values of sets and what they gain, and a good committee to begin with.
 //!
 //! The committee grows by the highest gains, and exchanges of members make it better. Any committee works, so it is
 //! only proved that its members are candidates of the election.
@@ -20,8 +20,7 @@ use tie_walk::{Tally, ThieleTally};
 /// The maximum number of passes over the members of a committee. Any limit works, and few passes are needed.
 const MOST_PASSES: u8 = 64;
 
-/// The values and gains of sets, for committees of `k`. They come from the columns of the election, if these are kept
-/// and count faster than a pass over the rows.
+/// The values and gains of sets, for committees of `k`. Columns, if they are kept, save passes over the rows.
 #[derive(Drop)]
 pub(crate) struct Counts<'a, A: Allocator + Copy> {
     pub(crate) tally: ThieleTally<'a, A>,

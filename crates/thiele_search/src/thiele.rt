@@ -106,7 +106,6 @@ impl<'a, A: Allocator + Copy + Drop> ThieleSearch<'a, A> {
             triples,
         } = memory;
         let (profile, rule, k) = (counts.tally.profile(), counts.tally.rule(), counts.k);
-        let (m, rows) = (profile.m(), profile.rows());
         let mut good = counts.grown();
         // No committee is worth more than all candidates together, so prices may have nothing to show.
         let priced = if counts.value(good) == counts.most() {
@@ -133,8 +132,8 @@ impl<'a, A: Allocator + Copy + Drop> ThieleSearch<'a, A> {
             counts,
             good,
             counts_pairs: Cell::new(false),
-            moves: Payoff::new(RARE, costs::moves(rows, rule)),
-            triples: Payoff::new(RARE, costs::triples(rows, m)),
+            moves: Payoff::new(RARE, costs::moves(profile.rows(), rule)),
+            triples: Payoff::new(RARE, costs::triples(profile.rows(), profile.m())),
             symmetries: Symmetries::none(),
         }
     }
@@ -223,7 +222,6 @@ impl<'a, A: Allocator + Copy> Searchable for ThieleSearch<'a, A> {
 impl<'a, A: Allocator + Copy> ThieleSearch<'a, A> {
     /// Whether the good committee, which has this value, is known to be the best. Any answer works.
     fn is_best(&self, value: u128) -> bool {
-        value == self.counts.most()
-            || matches!(&self.aids.priced, Some(priced) if priced.show_best)
+        value == self.counts.most() || matches!(&self.aids.priced, Some(priced) if priced.show_best)
     }
 }
