@@ -100,11 +100,8 @@ impl<'a, A: Allocator + Copy + Drop> ThieleSearch<'a, A> {
     pub fn new(memory: SearchMemory<'a, A>) -> ThieleSearch<'a, A>
         ensures { result ≡ memory.entry }
     {
-        let SearchMemory {
-            counts,
-            multipliers,
-            triples,
-        } = memory;
+        let multipliers = memory.multipliers;
+        let counts = &memory.counts;
         let (profile, rule, k) = (counts.tally.profile(), counts.tally.rule(), counts.k);
         let mut good = counts.grown();
         // No committee is worth more than all candidates together, so prices may have nothing to show.
@@ -126,10 +123,10 @@ impl<'a, A: Allocator + Copy + Drop> ThieleSearch<'a, A> {
                 dominance: Dominance::of(profile, rule, k),
                 priced,
                 sums: HitSums::for_pairs(rule, k, profile.voters()),
-                table: triples,
+                table: memory.triples,
                 uses: Uses::none(),
             },
-            counts,
+            counts: memory.counts,
             good,
             counts_pairs: Cell::new(false),
             moves: Payoff::new(RARE, costs::moves(profile.rows(), rule)),
