@@ -1,4 +1,4 @@
--- The aids of a search under a Thiele rule.
+-- The counts and aids of a search under a Thiele rule.
 use Rattle.std.specs.Prelude.{◌≡◌, ℕ, ◌*◌, ◌≤◌, true, List, Option, MatchOption, ⊤, slice_index}
 use Rattle.ballot_base.specs.Ballots.{IsElection, voter_count}
 use Rattle.ballot_base.specs.CandSet.{has_member}
