@@ -2,8 +2,8 @@
 //!
 //! `ThieleSearch` finds a committee of at least a given value, which consists of a set and some of the free candidates.
 //! One search also lists all tied committees, if they are few. `tie_search::descent` goes from set to set, and `search`
-//! narrows each set. Three bounds serve it: gains, which `columns` counts for 64 voters at once, and the prices and
-//! pairs of `thiele_bounds`. `tie_search::SearchWinners` asks for one winner after another.
+//! narrows each set. Three bounds serve it: gains (`counts`, with 64 voters in each word of `columns`), and the prices
+//! and pairs of `thiele_bounds`. `tie_search::SearchWinners` asks for one winner after another.
 //!
 //! A `SearchMemory` holds all memory that such a search takes. So a caller can take it before anything is written, and
 //! prepare the search afterwards.
@@ -15,8 +15,8 @@
 mod colours;
 mod columns;
 mod costs;
+mod counts;
 mod dominance;
-mod good;
 pub mod laws;
 mod matching;
 mod permutations;

@@ -13,14 +13,12 @@ ghost use Rattle.std.specs.Prelude.{◌≡◌, ℕ, ◌≤◌, true, false, slic
 ghost use Rattle.ballot_base.specs.CandSet.{has_member};
 ghost use Rattle.ballot_base.specs.Increments.{increments};
 ghost use Rattle.ballot_base.specs.declared.increments.ThieleRule.TheVariants.{Cc};
-ghost use Rattle.tie_walk.specs.Ceilings.{gain_at};
 ghost use Rattle.tie_walk.specs.Sequences.{gain};
 ghost use Rattle.row_multipliers.specs.Steps.Narrowed.{Narrows};
 ghost use Rattle.thiele_search.specs.Steps.Aided.{IsAided, IsGainPlan, IsValued};
 ghost use Rattle.row_multipliers.specs.Completions.{IsNode, IsOutOfReach};
 ghost use Rattle.tie_walk.specs.Values.{tally_value};
 
-use crate::columns::Columns;
 use crate::costs;
 use crate::dominance::Dominance;
 use crate::symmetry::MOST_CHOSEN;
@@ -43,13 +41,12 @@ const FEWEST_SEATS: u8 = 3;
 /// With more voters, good committees have about as many hits as random ones.
 const MANY_VOTERS: u64 = 1_000;
 
-/// The aids of a search: clones; dominance, if each hit adds something; columns and prices, if they are worth making;
-/// what hits give, for majorants; memory for a table of triples; and which tests helped so far.
+/// The aids of a search: clones; dominance, if each hit adds something; prices, if they are worth making; what hits
+/// give, for majorants; memory for a table of triples; and which tests helped so far.
 #[derive(Drop)]
 pub(crate) struct Aids<A: Allocator> {
     pub(crate) clones: Clones,
     pub(crate) dominance: Option<Dominance>,
-    pub(crate) columns: Option<Columns<A>>,
     pub(crate) priced: Option<Priced<A>>,
     pub(crate) sums: Option<HitSums>,
     pub(crate) table: TripleMemory<A>,
@@ -82,13 +79,13 @@ impl<'a, A: Allocator + Copy> ThieleSearch<'a, A> {
         self.symmetries.work(visits);
     }
 
-    /// The free candidates of a node that can still join, by the gains of its set or of a set with fewer members.
-    /// Returns `None` only if no completion of the set reaches the value.
+    /// The free candidates of a node that can still join, by the gains of its set. Returns `None` only if no completion
+    /// of the set reaches the value.
     fn promising(&self, gains: &Worths, node: &Node, value: u128, least: u128) -> Option<CandSet>
         requires is_node { IsNode self.now.election.m node.now.set node.now.free }
         requires valued { IsValued self.now node.now.set value }
-        requires gains { (n : ℕ) → has_member node.now.free n ≡ true
-            → gain_at (tally_value self.now) node.now.set n ≤ slice_index gains.now n }
+        requires gains { (n : ℕ) → has_member node.now.free n ≡ true → slice_index gains.now n
+            ≡ gain (increments self.now.rule self.now.k) self.now.election.rows node.now.set n }
         ensures { Narrows (tally_value self.now) self.now.election.m node.now least result }
     {
         gains.members_for(node.free, node.left, least.saturating_sub(value))
@@ -114,14 +111,14 @@ impl<'a, A: Allocator + Copy> ThieleSearch<'a, A> {
         match &self.aids.priced {
             Some(priced) if self.moves.is_due(node.left) => {
                 let search = PriceSearch {
-                    tally: &self.values,
+                    tally: &self.counts.tally,
                     given: &priced.given,
                     multipliers: &priced.multipliers,
                     least,
                 };
                 let moved = multipliers::narrowed(&search, &priced.multipliers, node, effort);
-                let rows = self.values.profile().rows();
-                let work = costs::round(rows, self.values.rule()).saturating_mul(u64::from(
+                let rows = self.counts.tally.profile().rows();
+                let work = costs::round(rows, self.counts.tally.rule()).saturating_mul(u64::from(
                     moved.rounds,
                 ));
                 self.work(work);
@@ -137,7 +134,7 @@ impl<'a, A: Allocator + Copy> ThieleSearch<'a, A> {
         requires is_node { IsNode self.now.election.m node.now.set node.now.free }
         ensures { Narrows (tally_value self.now) self.now.election.m node.now least result }
     {
-        if self.values.rule() != ThieleRule::Cc {
+        if self.counts.tally.rule() != ThieleRule::Cc {
             return Some(node.free);
         }
         let uses = &self.aids.uses.cover;
@@ -169,9 +166,9 @@ impl<'a, A: Allocator + Copy> ThieleSearch<'a, A> {
     {
         let uses = &self.aids.uses.pairs;
         let is_long = uses.are_due() && self.counts_pairs.get();
-        let is_due = is_long && node.left >= fewest_seats(self.values.rule());
+        let is_due = is_long && node.left >= fewest_seats(self.counts.tally.rule());
         let work = if is_due {
-            costs::pairs(self.values.profile().rows())
+            costs::pairs(self.counts.tally.profile().rows())
         } else {
             1
         };
@@ -189,7 +186,7 @@ impl<'a, A: Allocator + Copy> ThieleSearch<'a, A> {
         ensures { Narrows (tally_value self.now) self.now.election.m node.now least result }
     {
         let is_few = node.left <= MOST_LEFT;
-        if self.values.rule() != ThieleRule::Cc || !is_few || !self.lean.is_due(node.left) {
+        if self.counts.tally.rule() != ThieleRule::Cc || !is_few || !self.lean.is_due(node.left) {
             return Some(node.free);
         }
         let search = self.lean_search(node, value, least);
@@ -214,7 +211,7 @@ impl<'a, A: Allocator + Copy> ThieleSearch<'a, A> {
             return LeanSearch::NONE;
         };
         let due = due.min(u128::from(u32::MAX));
-        match Uncovered::of(self.values.profile(), node) {
+        match Uncovered::of(self.counts.tally.profile(), node) {
             Some(table) => LeanSearch {
                 refutes: table.refutes(node.left, due as u32),
                 branches: table.branches.get(),
@@ -264,7 +261,7 @@ impl<'a, A: Allocator + Copy> ThieleSearch<'a, A> {
         if !self.counts_pairs.get() || !self.may_count_triples(node) {
             return Some(node.free);
         }
-        let work = costs::triples(self.values.profile().rows(), node.free.len());
+        let work = costs::triples(self.counts.tally.profile().rows(), node.free.len());
         self.work(work);
         self.triples.note(node, work, self.by_triples(node, least))
     }
@@ -272,7 +269,7 @@ impl<'a, A: Allocator + Copy> ThieleSearch<'a, A> {
     /// Whether triples are worth counting at a node. Under `cc` they rule out too little. Further down, their tables
     /// would take too much stack.
     fn may_count_triples(&self, node: &Node) -> bool {
-        self.values.rule() != ThieleRule::Cc
+        self.counts.tally.rule() != ThieleRule::Cc
             && node.left >= FEWEST_SEATS
             && node.set.len() <= MOST_CHOSEN
             && self.triples.is_due(node.left)
@@ -287,7 +284,7 @@ impl<'a, A: Allocator + Copy> ThieleSearch<'a, A> {
     {
         match &self.aids.sums {
             Some(given) if node.left >= FEWEST_SEATS => {
-                let profile = self.values.profile();
+                let profile = self.counts.tally.profile();
                 let search = TripleSearch {
                     profile,
                     given,
@@ -330,24 +327,13 @@ impl<'a, A: Allocator + Copy> ThieleSearch<'a, A> {
         match &self.aids.sums {
             Some(given) if node.left >= 2 => {
                 let search = PairSearch {
-                    profile: self.values.profile(),
+                    profile: self.counts.tally.profile(),
                     given,
                     least,
                 };
                 search.narrowed(node, shape)
             }
             _ => Some(node.free),
-        }
-    }
-
-    /// What a set gains by each of the free candidates.
-    pub(crate) fn gains_at(&self, set: CandSet, free: CandSet) -> Worths
-        ensures { (n : ℕ) → has_member free n ≡ true → slice_index result n
-            ≡ gain (increments self.now.rule self.now.k) self.now.election.rows set n }
-    {
-        match &self.aids.columns {
-            Some(columns) => columns.gains_of(set, free),
-            None => self.values.gains(set, free),
         }
     }
 }
@@ -368,19 +354,19 @@ impl<'a, A: Allocator + Copy> Narrowing for ThieleSearch<'a, A> {
     }
 
     fn matched(&self, node: &Node, tried: u8) -> CandSet {
-        let profile = self.values.profile();
+        let profile = self.counts.tally.profile();
         self.symmetries
             .matched(profile, &self.aids.clones, node, tried)
     }
 
     // Where the election has symmetry, a list may be of many ties, and each is sooner asked for.
     fn gives_up(&self) -> bool {
-        let profile = self.values.profile();
+        let profile = self.counts.tally.profile();
         self.symmetries.end_lists(profile, &self.aids.clones)
     }
 
     fn root_value(&self, node: &Node) -> u128 {
-        self.counted(node.set)
+        self.counts.value(node.set)
     }
 
     fn whole_value(&self, _node: &Node, value: u128) -> u128 {
@@ -393,15 +379,14 @@ impl<'a, A: Allocator + Copy> Narrowing for ThieleSearch<'a, A> {
         self.lean.enter(node.left);
         self.symmetries.enter(node.left);
         let free = self.eligible_at_entry(node, value, least)?;
-        let gains = self.gains_at(node.set, free);
-        let due = least.saturating_sub(value);
-        let eligible = gains.members_for(free, node.left, due)?;
+        let gains = self.counts.gains(node.set, free);
+        let eligible = self.promising(&gains, &Node { free, ..*node }, value, least)?;
         Some(Plan {
             value,
             eligible,
             choices: eligible,
             worths: gains,
-            due,
+            due: least.saturating_sub(value),
             least,
         })
     }

@@ -1,14 +1,14 @@
 //! Thiele's rules as values that can be searched.
 ghost use Rattle.std.specs.Prelude.{◌≡◌, ◌≤◌, IfOk};
 ghost use Rattle.ballot_base.specs.Clones.{clones_among};
-ghost use Rattle.ballot_base.specs.Lists.{IsIncreasing};
 ghost use Rattle.ballot_base.specs.Limits.{most_members};
 ghost use Rattle.tie_walk.specs.Values.{tally_value, thiele_of, Thiele};
 ghost use Rattle.tie_walk.specs.Ceilings.{ceiling};
-ghost use Rattle.thiele_search.specs.Steps.Aided.{IsAided, IsMemoryFor, IsValued};
+ghost use Rattle.thiele_search.specs.Steps.Aided.{IsAided};
 
 use crate::columns::Columns;
 use crate::costs::{self, FIRST_BRANCHES, LEAN, RARE};
+use crate::counts::Counts;
 use crate::dominance::Dominance;
 use crate::search::Aids;
 use crate::symmetry::Symmetries;
@@ -30,9 +30,7 @@ const FEW_SETS: u64 = 64;
 /// election, the rule and `k`.
 #[derive(Drop)]
 pub struct SearchMemory<'a, A: Allocator + Copy = Global> {
-    values: ThieleTally<'a, A>,
-    k: u8,
-    columns: Option<Columns<A>>,
+    counts: Counts<'a, A>,
     multipliers: Multipliers<A>,
     triples: TripleMemory<A>,
 }
@@ -40,9 +38,7 @@ pub struct SearchMemory<'a, A: Allocator + Copy = Global> {
 impl<'a, A: Allocator + Copy> Model for SearchMemory<'a, A> {
     ghost Value = { Thiele };
 
-    ghost view = { λ t. t.values };
-
-    ghost invariant = { λ t. IsMemoryFor t.values t.k t.columns };
+    ghost view = { λ t. t.counts.tally };
 }
 
 impl<'a, A: Allocator + Copy + Drop> SearchMemory<'a, A> {
@@ -61,9 +57,11 @@ impl<'a, A: Allocator + Copy + Drop> SearchMemory<'a, A> {
         ensures { IfOk result (λ memory. memory ≡ thiele_of profile.now rule k) }
     {
         Ok(SearchMemory {
-            values: ThieleTally::new(profile, rule, k),
-            k,
-            columns: Columns::of(alloc, profile, rule, k)?,
+            counts: Counts {
+                tally: ThieleTally::new(profile, rule, k),
+                k,
+                columns: Columns::of(alloc, profile, rule, k)?,
+            },
             multipliers: Multipliers::of(alloc, profile.rows(), 0)?,
             triples: TripleMemory::of(alloc, profile.m())?,
         })
@@ -74,7 +72,7 @@ impl<'a, A: Allocator + Copy + Drop> SearchMemory<'a, A> {
 /// rule's increments. Contracts see the election, the rule and `k`.
 #[derive(Drop)]
 pub struct ThieleSearch<'a, A: Allocator + Copy = Global> {
-    pub(crate) values: ThieleTally<'a, A>,
+    pub(crate) counts: Counts<'a, A>,
     pub(crate) aids: Aids<A>,
     // A committee to begin with.
     good: CandSet,
@@ -93,9 +91,9 @@ pub struct ThieleSearch<'a, A: Allocator + Copy = Global> {
 impl<'a, A: Allocator + Copy> Model for ThieleSearch<'a, A> {
     ghost Value = { Thiele };
 
-    ghost view = { λ t. t.values };
+    ghost view = { λ t. t.counts.tally };
 
-    ghost invariant = { λ t. IsAided t.values t.aids };
+    ghost invariant = { λ t. IsAided t.counts.tally t.aids };
 }
 
 impl<'a, A: Allocator + Copy + Drop> ThieleSearch<'a, A> {
@@ -104,48 +102,40 @@ impl<'a, A: Allocator + Copy + Drop> ThieleSearch<'a, A> {
     pub fn new(memory: SearchMemory<'a, A>) -> ThieleSearch<'a, A>
         ensures { result ≡ memory.entry }
     {
-        let (profile, k) = (memory.values.profile(), memory.k);
-        let (rule, m) = (memory.values.rule(), profile.m());
-        let search = ThieleSearch {
+        let multipliers = memory.multipliers;
+        let counts = &memory.counts;
+        let (profile, rule, k) = (counts.tally.profile(), counts.tally.rule(), counts.k);
+        let mut good = counts.grown();
+        // No committee is worth more than all candidates together, so prices may have nothing to show.
+        let priced = if counts.value(good) == counts.most() {
+            None
+        } else {
+            Priced::of(multipliers, &counts.tally, k, good)
+        };
+        if let Some(priced) = &priced {
+            // The candidates with the highest prices may become a better committee.
+            let other = counts.exchanged(priced.dearest);
+            if other.len() == k && counts.value(other) > counts.value(good) {
+                good = other;
+            }
+        }
+        ThieleSearch {
             aids: Aids {
                 clones: Clones::of(profile),
                 dominance: Dominance::of(profile, rule, k),
-                columns: memory.columns,
-                priced: None,
+                priced,
                 sums: HitSums::for_pairs(rule, k, profile.voters()),
                 table: memory.triples,
                 uses: Uses::none(),
             },
-            values: memory.values,
-            good: CandSet::empty(),
+            counts: memory.counts,
+            good,
             counts_pairs: Cell::new(false),
             moves: Payoff::new(RARE, costs::moves(profile.rows(), rule)),
-            triples: Payoff::new(RARE, costs::triples(profile.rows(), m)),
+            triples: Payoff::new(RARE, costs::triples(profile.rows(), profile.m())),
             lean: Payoff::new(LEAN, costs::lean_search(FIRST_BRANCHES)),
             symmetries: Symmetries::none(),
-        };
-        let good = search.grown(k);
-        // No committee is worth more than all candidates together, so prices may have nothing to show.
-        let is_best = search.value(good) == search.value(CandSet::all(m));
-        let priced = if is_best {
-            None
-        } else {
-            Priced::of(memory.multipliers, &search.values, k, good)
-        };
-        let aids = search.aids;
-        let mut search = ThieleSearch {
-            aids: Aids { priced, ..aids },
-            good,
-            ..search
-        };
-        if let Some(priced) = &search.aids.priced {
-            // The candidates with the highest prices may become a better committee.
-            let other = search.exchanged(priced.dearest);
-            if other.len() == k && search.value(other) > search.value(good) {
-                search.good = other;
-            }
         }
-        search
     }
 }
 
@@ -157,15 +147,15 @@ impl<'a, A: Allocator + Copy> Tally for ThieleSearch<'a, A> {
     ghost bound_of = { λ tally c set left. ceiling (tally_value tally) tally.election.m c set left };
 
     fn m(&self) -> u8 {
-        self.values.m()
+        self.counts.tally.m()
     }
 
     fn value(&self, set: CandSet) -> u128 {
-        self.counted(set)
+        self.counts.value(set)
     }
 
     fn bound(&self, c: u8, set: CandSet, left: u8) -> u128 {
-        self.values.bound(c, set, left)
+        self.counts.tally.bound(c, set, left)
     }
 }
 
@@ -179,7 +169,7 @@ impl<'a, A: Allocator + Copy> WithClones for ThieleSearch<'a, A> {
 
 impl<'a, A: Allocator + Copy> Searchable for ThieleSearch<'a, A> {
     fn good_committee(&self, k: u8) -> Option<CandSet> {
-        let committee = CandSet::all(self.values.m()).common(self.good);
+        let committee = CandSet::all(self.counts.tally.m()).common(self.good);
         (committee.len() == k).then_some(committee)
     }
 
@@ -215,7 +205,7 @@ impl<'a, A: Allocator + Copy> Searchable for ThieleSearch<'a, A> {
             // If it is known under `cc` that the good committee is the best, hundreds may tie with it. Then winners
             // come sooner one by one: with 64 popular candidates and 20 seats, the first came after 0.01 s and not up
             // to 5 s.
-            if self.values.rule() == ThieleRule::Cc {
+            if self.counts.tally.rule() == ThieleRule::Cc {
                 return None;
             }
         } else if self.falls_short(&all, least.saturating_add(1)) {
@@ -230,22 +220,8 @@ impl<'a, A: Allocator + Copy> Searchable for ThieleSearch<'a, A> {
 }
 
 impl<'a, A: Allocator + Copy> ThieleSearch<'a, A> {
-    /// The value of a set.
-    pub(crate) fn counted(&self, set: CandSet) -> u128
-        requires { IsIncreasing 1 self.now.election.m set }
-        ensures { IsValued self.now set result }
-    {
-        match &self.aids.columns {
-            // Under `cc` it is the number of voters who approve a member. Counted row by row, long lists of ties took
-            // up to twice the instructions.
-            Some(columns) if self.values.rule() == ThieleRule::Cc => columns.covered(set) as u128,
-            _ => self.values.value(set),
-        }
-    }
-
     /// Whether the good committee, which has this value, is known to be the best. Any answer works.
     fn is_best(&self, value: u128) -> bool {
-        value == self.value(CandSet::all(self.m()))
-            || matches!(&self.aids.priced, Some(priced) if priced.show_best)
+        value == self.counts.most() || matches!(&self.aids.priced, Some(priced) if priced.show_best)
     }
 }

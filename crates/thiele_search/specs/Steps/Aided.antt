@@ -1,4 +1,4 @@
--- The aids of a search under a Thiele rule.
+-- The counts and aids of a search under a Thiele rule.
 use Rattle.std.specs.Prelude.{◌≡◌, ℕ, ◌*◌, ◌≤◌, true, List, Option, MatchOption, ⊤, slice_index}
 use Rattle.ballot_base.specs.Ballots.{IsElection, voter_count}
 use Rattle.ballot_base.specs.CandSet.{has_member}
@@ -29,18 +29,13 @@ pub record IsGainPlan (tally : Thiele) (set : List ℕ) (plan : Plan) : Type 0 w
   pub gains : (n : ℕ) → has_member plan.eligible n ≡ true
       → slice_index plan.worths n ≡ gain (increments tally.rule tally.k) tally.election.rows set n
 
--- the columns are those of the election, if they are kept
-abbrev pub KeepsColumns : {A : Type 0} → Thiele → Option (Columns A) → Type 0
-KeepsColumns tally columns = MatchOption columns ⊤ (λ kept.
-    AreColumnsOf tally kept.blocks.items kept.weights)
-
--- the memory is for a search among the committees of this size, and the columns in it are those of the election
-pub record IsMemoryFor {A : Type 0} (tally : Thiele) (k : ℕ) (columns : Option (Columns A)) : Type 0 where
+-- the counts are for committees of this size, and the columns, if they are kept, are those of the election
+pub record IsCounted {A : Type 0} (tally : Thiele) (k : ℕ) (columns : Option (Columns A)) : Type 0 where
   pub election : IsElection tally.election
   pub k_is : k ≡ tally.k
   pub some : 1 ≤ tally.k
   pub size : tally.k ≤ most_members
-  pub columns_are : KeepsColumns tally columns
+  pub columns_are : MatchOption columns ⊤ (λ kept. AreColumnsOf tally kept.blocks.items kept.weights)
 
 -- the sums, if they are kept, are those of the rule, and small enough for majorants
 abbrev pub HasSums : Thiele → Option HitSums → Type 0
@@ -48,13 +43,9 @@ HasSums tally sums = MatchOption sums ⊤ (λ given.
     AreSums (increments tally.rule tally.k) given.scale given.unit given.sums
     × (voter_count tally.election.rows * most_sum given.sums ≤ most_overlap))
 
--- the values are those of an election, and the aids are made from this election
+-- the aids are made from the election and the rule
 pub record IsAided {A : Type 0} (tally : Thiele) (aids : Aids A) : Type 0 where
-  pub election : IsElection tally.election
-  pub some : 1 ≤ tally.k
-  pub size : tally.k ≤ most_members
   pub clones : AreClones tally.election.m tally.election.rows aids.clones
   pub dominance : MatchOption aids.dominance ⊤ (IsDominance tally)
-  pub columns : KeepsColumns tally aids.columns
   pub priced : IsPriced tally aids.priced
   pub sums : HasSums tally aids.sums

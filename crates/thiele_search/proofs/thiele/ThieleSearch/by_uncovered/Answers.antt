@@ -10,7 +10,7 @@ pub lean_search-search-requires-clause-rule : goal.lean_search-search-requires-c
 lean_search-search-requires-clause-rule g c = search rules
 
 pub lean_search-search-requires-clause-some : goal.lean_search-search-requires-clause-some
-lean_search-search-requires-clause-some g c = (rw c.self.view_is at c.self.invariant).some
+lean_search-search-requires-clause-some g c = (rw c.self.view_is at c.self.inside.counts.sound).some
 
 not-false : (b : Bool) → not b ≡ false → b ≡ true
 not-false true is = refl

@@ -18,4 +18,4 @@ returns-clause-classes g c = clones-classes c.args.self.now.election.m c.args.se
 pub returns-clause-alike : goal.returns-clause-alike
 returns-clause-alike g c =
     subst (λ (tally : Thiele). AreAlike (tally_value tally) tally.election.m (clones_among tally.election.m tally.election.rows)) c.self.view_is
-    (alike c.self.inside.values c.self.invariant.election)
+    (alike c.self.inside.counts.tally c.self.inside.counts.sound.election)

@@ -1,11 +1,11 @@
 use Rattle.ballot_base.specs.Limits.{most_candidates}
 use Rattle.ballot_base.proofs.Passed.{rest-up}
 use Rattle.row_multipliers.proofs.CompletionLemmas.{candidates-among}
-use Rattle.thiele_search.proofs.thiele.ThieleSearch.exchanged.Goals as goal
+use Rattle.thiele_search.proofs.counts.Counts.exchanged.Goals as goal
 
 pub loop-pass-init : goal.loop-pass-init
 loop-pass-init g c =
-    rw (c.m.ensures.value, c.self.view_is) at (candidates-among c.m.result c.all.result c.args.committee c.common-best.result c.all.ensures c.common-best.ensures)
+    rw c.m.ensures.value at (candidates-among c.m.result c.all.result c.args.committee c.common-best.result c.all.ensures c.common-best.ensures)
 
 pub loop-member-preserved : goal.loop-member-preserved
 loop-member-preserved g c = record {

@@ -1,8 +1,8 @@
 use Rattle.std.proofs.Common.{arith}
 use Rattle.tie_walk.proofs.LawLemmas.{IsIncreasing-range}
-use Rattle.thiele_search.proofs.thiele.ThieleSearch.is_best.Goals as goal
+use Rattle.thiele_search.proofs.counts.Counts.most.Goals as goal
 
 pub value-requires : goal.value-requires
 value-requires g c =
-    let m = c.args.self.now.election.m in
+    let m = c.args.self.now.tally.election.m in
     rw (c.all.ensures, c.m.ensures.value) (IsIncreasing-range 1 m m (omega arith))

@@ -1,5 +1,0 @@
-use Rattle.ballot_base.specs.Lists.{IsIncreasing}
-use Rattle.thiele_search.proofs.thiele.ThieleSearch.grown.Given as goal
-
-abbrev pub invariant-loop-joined : goal.invariant-loop-joined
-invariant-loop-joined g l = IsIncreasing 1 l.self.election.m l.committee
