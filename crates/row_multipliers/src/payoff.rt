@@ -13,9 +13,13 @@ use std::array;
 use std::cell::Cell;
 use std::marker::Model;
 
-/// One node in this number is left alone, to measure the work below it. Measured at nodes that a bound had not ended,
-/// it was too high, and 40 random candidates took fifteen times as long under `cc`.
-const LEFT_ALONE: u32 = 16;
+/// At most one node in this number is left alone, to measure the work below it. Measured at nodes that a bound had not
+/// ended, it was too high, and 40 random candidates took fifteen times as long under `cc`.
+const LEFT_ALONE: u64 = 16;
+
+/// Nodes are left alone so seldom that the work below them is at most one in this number of what the bound costs. As
+/// long as one node in 16 was left alone, 12,000 random voters took up to twice as long under `pav`.
+const CAUTION: u64 = 16;
 
 /// The number of nodes, for a number of seats left, whose work below has to be known.
 const FEWEST_KNOWN: u32 = 4;
@@ -122,14 +126,15 @@ impl Payoff {
         let level = level.get();
         let cost = u64::from(level.cost.value);
         let lost = self.lost.get().saturating_add(cost);
-        let hope = match level.nodes % LEFT_ALONE {
+        let saved = level.saved(self.work_below(left));
+        let times = saved / cost.max(1);
+        let hope = match u64::from(level.nodes) % LEFT_ALONE.max(times.saturating_mul(CAUTION)) {
             0 => return false,
             1 => self.limits.hope,
             _ => 1,
         };
-        let saved = level.saved(self.work_below(left)).saturating_mul(hope);
         lost <= self.done.get() / self.limits.lost_share.max(1)
-            && saved / self.limits.margin.max(1) >= cost
+            && saved.saturating_mul(hope) / self.limits.margin.max(1) >= cost
     }
 
     /// The work below a node with `left` seats left, as far as it is known: at least that with fewer seats left.
