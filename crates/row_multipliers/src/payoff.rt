@@ -13,16 +13,12 @@ use std::array;
 use std::cell::Cell;
 use std::marker::Model;
 
-/// One node in this number is left alone, to measure the work below it. Measured at nodes that a bound had not ended,
-/// it was too high, and 40 random candidates took fifteen times as long under `cc`.
-const LEFT_ALONE: u32 = 16;
+/// At most one node in this number is left alone, to measure the work below it. Measured at nodes that a bound had not
+/// ended, it was too high, and 40 random candidates took fifteen times as long under `cc`.
+const LEFT_ALONE: u64 = 16;
 
-/// One node in this number is left alone once the work below is known well. The nodes below one that is left alone may
-/// cost more than all bounds up to the next: with 16, 12,000 random voters took up to twice as long under `pav`.
-const LEFT_ALONE_LATER: u32 = 128;
-
-/// The number of nodes whose work below has to be measured before it is known well.
-const WELL_KNOWN: u32 = 16;
+/// This number of times the work lost at nodes that are left alone is at most what the bound costs, where that counts.
+const CAUTION: u64 = 16;
 
 /// The number of nodes, for a number of seats left, whose work below has to be known.
 const FEWEST_KNOWN: u32 = 4;
@@ -120,15 +116,35 @@ impl Payoff {
 
     /// Whether to make the bound at the node that was entered last, with `left` seats left.
     pub fn is_due(&self, left: u8) -> bool {
-        let Some(level) = self.levels.get(usize::from(left)) else {
-            return false;
-        };
-        let level = level.get();
+        self.times_saved(left).is_some() && !self.is_one_in(left, LEFT_ALONE)
+    }
+
+    /// Like `is_due`, but the more the bound saves, the fewer nodes are left alone. With one in 16, elections of 5,000
+    /// random voters took up to 1.4 times as many instructions. For moved multipliers and weights it brought nothing.
+    pub fn is_mostly_due(&self, left: u8) -> bool {
+        match self.times_saved(left) {
+            Some(times) => !self.is_one_in(left, times.saturating_mul(CAUTION).max(LEFT_ALONE)),
+            None => false,
+        }
+    }
+
+    /// Whether the node that was entered last, with `left` seats left, is one in this number.
+    fn is_one_in(&self, left: u8, number: u64) -> bool {
+        match self.levels.get(usize::from(left)) {
+            Some(level) => u64::from(level.get().nodes) % number.max(1) == 0,
+            None => false,
+        }
+    }
+
+    /// How many times its cost the bound saves at a node with `left` seats left. Returns `None` if it does not pay.
+    fn times_saved(&self, left: u8) -> Option<u64> {
+        let level = self.levels.get(usize::from(left))?.get();
         let cost = u64::from(level.cost.value);
         let lost = self.lost.get().saturating_add(cost);
-        lost <= self.done.get() / self.limits.lost_share.max(1)
-            && !level.is_left_alone()
-            && level.saved(self.work_below(left)) / self.limits.margin.max(1) >= cost
+        let saved = level.saved(self.work_below(left));
+        let pays = lost <= self.done.get() / self.limits.lost_share.max(1)
+            && saved / self.limits.margin.max(1) >= cost;
+        pays.then_some(saved / cost.max(1))
     }
 
     /// The work below a node with `left` seats left, as far as it is known: at least that with fewer seats left.
@@ -180,16 +196,6 @@ impl Level {
             below: Mean::NONE,
             open: None,
         }
-    }
-
-    /// Whether the bound is not made at the present node, to measure the work below it.
-    fn is_left_alone(self) -> bool {
-        let share = if self.below.count < WELL_KNOWN {
-            LEFT_ALONE
-        } else {
-            LEFT_ALONE_LATER
-        };
-        self.nodes % share == 0
     }
 
     /// The work below a node, or 0 if too few are known.
