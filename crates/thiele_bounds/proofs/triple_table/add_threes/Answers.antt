@@ -91,14 +91,14 @@ loop-high-preserved c =
     let some = first-some left rest first steps inv.rises in
     let more : (i j : ℕ) → overlap_at c.add_to_plane.new.pairs i j ≡ overlap_at c.loop-high.pairs i j + portion (max i j == first) (has_member (members_upto members first) (min i j)) two =
     λ i j.
-        omega (
-          arith,
-          c.add_to_plane.ensures.paired i j,
-          c.add_to_pairs.ensures i j,
-          ap (λ l. portion (max i j == first) (has_member l (min i j)) two) c.upto.ensures,
-          ap (λ l. portion (max i j == first) (has_member l (min i j)) two) (own (goal.at.loop-high-preserved c).After-with),
-          own-and-before members first (max i j) (min i j) two some (c.loop-high.invariant.among first (first-in left rest first steps inv.rises)) (omega arith),
-        ) in
+    omega (
+      arith,
+      c.add_to_plane.ensures.paired i j,
+      c.add_to_pairs.ensures i j,
+      ap (λ l. portion (max i j == first) (has_member l (min i j)) two) c.upto.ensures,
+      ap (λ l. portion (max i j == first) (has_member l (min i j)) two) (own (goal.at.loop-high-preserved c).After-with),
+      own-and-before members first (max i j) (min i j) two some (c.loop-high.invariant.among first (first-in left rest first steps inv.rises)) (omega arith),
+    ) in
     record {
       paired = rows-more left rest first steps inv.rises c.loop-high.pairs c.args.pairs.now c.add_to_plane.new.pairs members two inv.paired more;
       among = λ n is. inv.among n (later-in left rest first steps inv.rises n is);
