@@ -115,13 +115,26 @@ impl Totals {
             ≡ overlap_at self.old.overlaps i j
             + (if has_member approved i then (if has_member approved j then voters * majorant.overlap else 0) else 0) }
     {
+        self.add_worths(majorant, approved, voters);
+        if majorant.overlap > 0 {
+            add_pairs(&mut self.overlaps, approved, voters * majorant.overlap);
+        }
+    }
+
+    /// Like `add`, except for the overlap.
+    pub(crate) fn add_worths(&mut self, majorant: Majorant, approved: CandSet, voters: u64)
+        requires voters { voters ≤ most_voters }
+        requires majorant { IsSmallMajorant most_given majorant }
+        requires small { AreSmall self.old }
+        ensures constant { self.new.constant ≡ self.old.constant + voters * majorant.constant }
+        ensures worths { (n : ℕ) → slice_index self.new.worths n ≡ slice_index self.old.worths n
+            + (if has_member approved n then voters * majorant.worth else 0) }
+        ensures overlaps { self.new.overlaps ≡ self.old.overlaps }
+    {
         let count = u128::from(voters);
         self.constant += count * u128::from(majorant.constant);
         self.worths
             .add(approved, count * u128::from(majorant.worth));
-        if majorant.overlap > 0 {
-            add_pairs(&mut self.overlaps, approved, voters * majorant.overlap);
-        }
     }
 
     /// The highest overlap of two candidates. It is that of some candidate with itself.
@@ -212,11 +225,12 @@ pub(crate) fn add_pairs(table: &mut Table, members: CandSet, amount: u64)
         + (if has_member members i then (if has_member members j then amount else 0) else 0) }
 {
     for row in members.members() {
-        add_to_row(table, row, members.upto(row), amount);
+        add_to_pairs(table, row, members.upto(row), amount);
     }
 }
 
-fn add_to_row(table: &mut Table, row: u8, columns: CandSet, amount: u64)
+/// Adds this amount for a candidate with each of the columns.
+pub(crate) fn add_to_pairs(table: &mut Table, row: u8, columns: CandSet, amount: u64)
     requires within { row ≤ most_candidates }
     requires columns { (n : ℕ) → has_member columns n ≡ true → n ≤ row }
     requires fits { (j : ℕ) → j ≤ row → overlap_at table.old row j + amount < 2 ^ 64 }

@@ -1,10 +1,11 @@
 //! A table of triples: a word for each three candidates.
-ghost use Rattle.std.specs.Prelude.{◌≡◌, ℕ, ◌+◌, ◌^◌, ◌<◌, ◌≤◌, ◌==◌, true, ⊤, length, MatchOption, slice_index, if◌then◌else◌};
+ghost use Rattle.std.specs.Prelude.{◌≡◌, ℕ, ◌+◌, ◌^◌, ◌<◌, ◌≤◌, ◌==◌, true, ⊤, length, max, min, MatchOption, slice_index, if◌then◌else◌};
 ghost use Rattle.ballot_base.specs.Limits.{most_candidates};
 ghost use Rattle.ballot_base.specs.CandSet.{has_member};
+ghost use Rattle.thiele_bounds.specs.Steps.Paired.{overlap_at};
 ghost use Rattle.thiele_bounds.specs.Steps.Places.{HasRoom, tetrahedron, word_at};
 
-use crate::pairs::row_start;
+use crate::pairs::{Table, add_pairs, add_to_pairs, row_start};
 use ballot_base::CandSet;
 use std::alloc::{AllocError, Allocator};
 use std::cell::Cell;
@@ -60,35 +61,80 @@ pub(crate) fn plane_start(candidate: u8) -> usize
     candidate * (candidate + 1) * (candidate + 2) / 6
 }
 
-/// Adds this amount for each three of the members. An amount of 0 takes no time.
-pub(crate) fn add_threes(table: &mut [u64], members: CandSet, amount: u64)
-    requires room { HasRoom members table.old }
-    requires fits { (z y x : ℕ) → x < y → y < z → word_at table.old z y x + amount < 2 ^ 64 }
-    ensures kept { length table.new ≡ length table.old }
-    ensures added { (z y x : ℕ) → x < y → y < z → word_at table.new z y x ≡ word_at table.old z y x
-        + (if has_member members z then (if has_member members y then (if has_member members x then amount else 0)
-        else 0) else 0) }
+/// What a ballot adds for each two, and for each three, of the free candidates that it approves.
+#[derive(Clone, Copy)]
+pub(crate) struct Amounts {
+    pub(crate) two: u64,
+    pub(crate) three: u64,
+}
+
+/// Adds these amounts for each two and each three of the members. An amount of 0 for each three takes no time.
+pub(crate) fn add_all(pairs: &mut Table, triples: &mut [u64], members: CandSet, amounts: Amounts)
+    requires room { HasRoom members triples.old }
+    requires pairs_fit { (i j : ℕ) → j ≤ most_candidates → overlap_at pairs.old i j + amounts.two < 2 ^ 64 }
+    requires fits { (z y x : ℕ) → x < y → y < z → word_at triples.old z y x + amounts.three < 2 ^ 64 }
+    ensures kept { length triples.new ≡ length triples.old }
+    ensures paired { (i j : ℕ) → j ≤ most_candidates → overlap_at pairs.new i j ≡ overlap_at pairs.old i j
+        + (if has_member members i then (if has_member members j then amounts.two else 0) else 0) }
+    ensures added { (z y x : ℕ) → x < y → y < z → word_at triples.new z y x ≡ word_at triples.old z y x
+        + (if has_member members z then (if has_member members y then (if has_member members x then amounts.three
+        else 0) else 0) else 0) }
 {
-    if amount == 0 {
-        return;
-    }
-    for high in members.members() {
-        add_to_plane(table, high, members.upto(high - 1), amount);
+    if amounts.three == 0 {
+        add_pairs(pairs, members, amounts.two);
+    } else {
+        add_threes(pairs, triples, members, amounts);
     }
 }
 
-/// Adds this amount for a candidate with each two of the members before it.
-fn add_to_plane(table: &mut [u64], high: u8, members: CandSet, amount: u64)
-    requires room { tetrahedron (high + 1) ≤ length table.old }
+/// Adds these amounts for each two and each three of the members.
+fn add_threes(pairs: &mut Table, triples: &mut [u64], members: CandSet, amounts: Amounts)
+    requires room { HasRoom members triples.old }
+    requires pairs_fit { (i j : ℕ) → j ≤ most_candidates → overlap_at pairs.old i j + amounts.two < 2 ^ 64 }
+    requires fits { (z y x : ℕ) → x < y → y < z → word_at triples.old z y x + amounts.three < 2 ^ 64 }
+    ensures kept { length triples.new ≡ length triples.old }
+    ensures paired { (i j : ℕ) → j ≤ most_candidates → overlap_at pairs.new i j ≡ overlap_at pairs.old i j
+        + (if has_member members i then (if has_member members j then amounts.two else 0) else 0) }
+    ensures added { (z y x : ℕ) → x < y → y < z → word_at triples.new z y x ≡ word_at triples.old z y x
+        + (if has_member members z then (if has_member members y then (if has_member members x then amounts.three
+        else 0) else 0) else 0) }
+{
+    for high in members.members() {
+        add_to_pairs(pairs, high, CandSet::empty().with(high), amounts.two);
+        add_to_plane(pairs, triples, high, members.upto(high - 1), amounts);
+    }
+}
+
+/// Adds these amounts for a candidate with each of the members before it, and with each two of them.
+fn add_to_plane(
+    pairs: &mut Table,
+    triples: &mut [u64],
+    high: u8,
+    members: CandSet,
+    amounts: Amounts,
+)
+    requires within { high ≤ most_candidates }
+    requires room { tetrahedron (high + 1) ≤ length triples.old }
     requires before { (n : ℕ) → has_member members n ≡ true → n < high }
-    requires fits { (y x : ℕ) → x < y → y < high → word_at table.old high y x + amount < 2 ^ 64 }
-    ensures kept { length table.new ≡ length table.old }
-    ensures added { (z y x : ℕ) → x < y → y < z → word_at table.new z y x ≡ word_at table.old z y x
-        + (if has_member members y then (if z == high then (if has_member members x then amount else 0) else 0)
+    requires pairs_fit { (j : ℕ) → j < high → overlap_at pairs.old high j + amounts.two < 2 ^ 64 }
+    requires fits { (y x : ℕ) → x < y → y < high → word_at triples.old high y x + amounts.three < 2 ^ 64 }
+    ensures kept { length triples.new ≡ length triples.old }
+    ensures paired { (i j : ℕ) → overlap_at pairs.new i j ≡ overlap_at pairs.old i j
+        + (if max i j == high then (if has_member members (min i j) then amounts.two else 0) else 0) }
+    ensures added { (z y x : ℕ) → x < y → y < z → word_at triples.new z y x ≡ word_at triples.old z y x
+        + (if has_member members y then (if z == high then (if has_member members x then amounts.three else 0) else 0)
         else 0) }
 {
+    let start = row_start(high);
     for middle in members.members() {
-        add_to_row(table, high, middle, members.upto(middle - 1), amount);
+        pairs[start + usize::from(middle)] += amounts.two;
+        add_to_row(
+            triples,
+            high,
+            middle,
+            members.upto(middle - 1),
+            amounts.three,
+        );
     }
 }
 

@@ -22,7 +22,7 @@ ghost use Rattle.thiele_bounds.specs.Steps.Units.{most_overlap};
 use crate::majorant::{HitSums, Majorant, PLACES_BEFORE, PLACES_OPEN};
 use crate::pairs::{TABLE_PLACES, Table, Totals, place, row_start};
 use crate::rough::Rough;
-use crate::triple_table::{TripleMemory, add_threes, plane_start};
+use crate::triple_table::{Amounts, TripleMemory, add_all, plane_start};
 use ballot_base::{CandSet, MOST_CANDIDATES, PLACES, Profile, Worths};
 use row_multipliers::Node;
 use std::alloc::Allocator;
@@ -59,20 +59,18 @@ impl<A: Allocator + Copy> TripleSearch<'_, A> {
         let Some(mut table) = self.memory.table(self.profile.m()) else {
             return Some(node.free);
         };
-        self.add_triples(&mut table, node);
-        let members = self.members_by(&table, node);
+        let members = self.members_by(&mut table, node);
         self.memory.keep(table);
         members
     }
 
-    /// Like `narrowed`, by the triples of all voters.
-    fn members_by(&self, triples: &[u64], node: &Node) -> Option<CandSet>
+    /// Like `narrowed`, with a table of triples in which every word is 0.
+    fn members_by(&self, triples: &mut [u64], node: &Node) -> Option<CandSet>
         requires is_node { IsNode self.now.profile.now.m node.now.set node.now.free }
         requires several { 3 ≤ node.now.left }
         requires some { 1 ≤ length node.now.free }
-        requires room { HasRoom node.now.free triples.now }
-        requires triples { AreTriples self.now.given.now.sums self.now.shift self.now.profile.now.rows node.now
-            triples.now }
+        requires room { HasRoom node.now.free triples.old }
+        requires nothing { (n : ℕ) → slice_index triples.old n ≡ 0 }
         ensures { NarrowsUnder self.now.given.now self.now.profile.now node.now self.now.least result }
     {
         let mut totals = Totals {
@@ -80,7 +78,7 @@ impl<A: Allocator + Copy> TripleSearch<'_, A> {
             worths: Worths::none(),
             overlaps: [0; TABLE_PLACES],
         };
-        self.add_ballots(&mut totals, node);
+        self.add_ballots(&mut totals, triples, node);
         let others = u128::from(node.left - 1);
         let factor = 3 * others * u128::from(node.left - 2);
         let most = totals.greatest_overlap();
@@ -103,42 +101,37 @@ impl<A: Allocator + Copy> TripleSearch<'_, A> {
         )
     }
 
-    /// Adds up the cubics of all voters, except for their triples.
-    fn add_ballots(&self, totals: &mut Totals, node: &Node)
-        requires is_node { IsNode self.now.profile.now.m node.now.set node.now.free }
-        requires some { 1 ≤ length node.now.free }
-        requires nothing { AreNothing totals.old.constant totals.old.worths totals.old.overlaps }
-        ensures cubics { AreCubics self.now.given.now.sums self.now.shift self.now.profile.now.rows node.now
-            totals.new.constant totals.new.worths totals.new.overlaps }
-        ensures small { AreSmall totals.new }
-        ensures valid { IsElection self.now.profile.now }
-    {
-        let mut cubics = Cubics::new(&self.given.sums, node, self.shift);
-        for (ballot, voters) in self.profile.ballots() {
-            let approved = ballot.common(node.free);
-            let before = ballot.common(node.set).len();
-            let majorant = cubics.of_ballot(before, approved.len());
-            totals.add(majorant, approved, voters);
-        }
-    }
-
-    /// Adds up the triples of all voters, for each three free candidates that they approve.
-    fn add_triples(&self, triples: &mut [u64], node: &Node)
+    /// Adds up the cubics of all voters.
+    fn add_ballots(&self, totals: &mut Totals, triples: &mut [u64], node: &Node)
         requires is_node { IsNode self.now.profile.now.m node.now.set node.now.free }
         requires some { 1 ≤ length node.now.free }
         requires room { HasRoom node.now.free triples.old }
-        requires nothing { (n : ℕ) → slice_index triples.old n ≡ 0 }
+        requires nothing { AreNothing totals.old.constant totals.old.worths totals.old.overlaps }
+        requires no_triples { (n : ℕ) → slice_index triples.old n ≡ 0 }
+        ensures cubics { AreCubics self.now.given.now.sums self.now.shift self.now.profile.now.rows node.now
+            totals.new.constant totals.new.worths totals.new.overlaps }
+        ensures small { AreSmall totals.new }
         ensures kept { length triples.new ≡ length triples.old }
         ensures triples { AreTriples self.now.given.now.sums self.now.shift self.now.profile.now.rows node.now
             triples.new }
+        ensures valid { IsElection self.now.profile.now }
     {
+        let mut cubics = Cubics::new(&self.given.sums, node, self.shift);
         let bends = Bends {
             touches: touches_at(node, self.shift),
             triples: triples_of(&self.given.sums),
         };
         for (ballot, voters) in self.profile.ballots() {
+            let approved = ballot.common(node.free);
+            let before = ballot.common(node.set).len();
+            let majorant = cubics.of_ballot(before, approved.len());
             let triple = self.triple_with(node, ballot, &bends);
-            add_threes(triples, ballot.common(node.free), voters * triple);
+            totals.add_worths(majorant, approved, voters);
+            let amounts = Amounts {
+                two: voters * majorant.overlap,
+                three: voters * triple,
+            };
+            add_all(&mut totals.overlaps, triples, approved, amounts);
         }
     }
 

@@ -240,14 +240,14 @@ impl<'a, A: Allocator + Copy> ThieleSearch<'a, A> {
         self.triple_narrowed(&Node { free, ..*node }, least)
     }
 
-    /// Like `eligible`, but where candidates have left a node after its entry. Triples are counted with an even number
-    /// of free candidates.
+    /// Like `eligible`, but where candidates have left a node after its entry. Triples are counted if the number of free
+    /// candidates is a multiple of three.
     fn eligible_again(&self, node: &Node, least: u128) -> Option<CandSet>
         requires is_node { IsNode self.now.election.m node.now.set node.now.free }
         ensures { Narrows (tally_value self.now) self.now.election.m node.now least result }
     {
         let free = self.eligible(node, least, AGAIN)?;
-        if node.free.len() % 2 != 0 {
+        if node.free.len() % 3 != 0 {
             return Some(free);
         }
         self.triple_narrowed(&Node { free, ..*node }, least)
@@ -272,7 +272,7 @@ impl<'a, A: Allocator + Copy> ThieleSearch<'a, A> {
         self.counts.tally.rule() != ThieleRule::Cc
             && node.left >= FEWEST_SEATS
             && node.set.len() <= MOST_CHOSEN
-            && self.triples.is_due(node.left)
+            && self.triples.is_mostly_due(node.left)
     }
 
     /// Like `eligible`, but by cubic majorants, if at least three seats are left.

@@ -146,7 +146,7 @@ module _ (left rest : List ℕ) (first : ℕ) (is : left ≡ first ∷ rest) (up
         kept (inr apart) other = ap (λ b. portion b (has_member rest (min i j)) amount) (ne_eqb (max i j) row apart) ∙ sym (ap (λ b. portion b (has_member left (min i j)) amount) (ne_eqb (max i j) row apart))
 
     -- the next number fits
-    pub row-fits : (bound : ℕ) → ((j : ℕ) → j ≤ row → overlap_at begun row j + amount < bound) → get_or table (triangle row + first) 0 + amount < bound
+    pub row-fits : (bound : ℕ) → overlap_at begun row first + amount < bound → get_or table (triangle row + first) 0 + amount < bound
     row-fits bound fits =
         let more : max row first ≡ row = omega (arith, low) in
         let less : min row first ≡ first = omega (arith, low) in
@@ -154,7 +154,7 @@ module _ (left rest : List ℕ) (first : ℕ) (is : left ≡ first ∷ rest) (up
         omega (
           arith,
           made row first,
-          fits first low,
+          fits,
           ap (λ n. get_or table n 0) at,
           ap (λ b. portion b (has_member left (min row first)) amount) (eq-eqb (max row first) row more),
           ap (λ b. portion b (has_member columns (min row first)) amount) (eq-eqb (max row first) row more),

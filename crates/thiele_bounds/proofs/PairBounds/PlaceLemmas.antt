@@ -1,7 +1,7 @@
 -- Tables of triples, and what a ballot adds to them.
-use Rattle.std.proofs.Common.{◌≡◌, ℕ, zero, suc, ◌+◌, ◌-◌, ◌*◌, ◌<◌, ◌≤◌, ◌==◌, ◌&&◌, ◌∙◌, Bool, true, false, cond, List, ◌∷◌, refl, sym, ap, arith, inl, inr, length, get_or, set, nat_le}
+use Rattle.std.proofs.Common.{◌≡◌, ℕ, zero, suc, ◌+◌, ◌-◌, ◌*◌, ◌<◌, ◌≤◌, ◌==◌, ◌&&◌, ◌||◌, ◌∙◌, ◌⊎◌, Bool, true, false, cond, List, [], ◌∷◌, refl, sym, ap, arith, inl, inr, length, get_or, set, nat_le}
 use Rattle.std.proofs.Math.Nat.{mul-le-mul}
-use Rattle.std.proofs.lemmas.Bool.{cases_eq, cases_lt, eq-eqb, le-leb, leb-true, ne_eqb}
+use Rattle.std.proofs.lemmas.Bool.{cases_eq, cases_lt, eq-eqb, le-leb, leb-true, lt-leb, ne_eqb}
 use Rattle.std.proofs.lemmas.List.{get_or-set_same, get_or-set_other}
 use Rattle.ballot_base.specs.Limits.{most_candidates}
 use Rattle.ballot_base.specs.Lists.{IsIncreasing}
@@ -11,7 +11,7 @@ use Rattle.row_multipliers.proofs.CompletionLemmas.{and-true}
 use Rattle.row_multipliers.proofs.MemberLemmas.{first-gone, first-in, others-same}
 use Rattle.thiele_bounds.specs.Steps.Paired.{triangle}
 use Rattle.thiele_bounds.specs.Steps.Places.{tetrahedron}
-use Rattle.thiele_bounds.proofs.PairBounds.OverlapLemmas.{place-row, triangle-next, triangle-rises}
+use Rattle.thiele_bounds.proofs.PairBounds.OverlapLemmas.{portion, place-row, triangle-next, triangle-rises}
 
 -- ---- places
 
@@ -117,6 +117,56 @@ pub upto-before : (members : List ℕ) (first n : ℕ) → 1 ≤ first → has_m
 upto-before members first n some is =
     let low : n ≤ first - 1 = leb-true n (first - 1) (and-true (nat_le n (first - 1)) (has_member members n) (sym (has_member-filter (λ x. nat_le x (first - 1)) members n) ∙ is)).0 in
     omega (arith, low, some)
+
+-- a set of one candidate
+pub one-other : (one n : ℕ) → (one ≡ n → ⊥) → has_member (one ∷ []) n ≡ false
+one-other one n other = ap (λ b. b || false) (ne_eqb one n other)
+
+pub one-most : (one n : ℕ) → has_member (one ∷ []) n ≡ true → n ≤ one
+one-most one n is = elim (cases_eq one n) [
+  | inl same ↦ omega (arith, same)
+  | inr other ↦ absurd (let e : true ≡ false = sym is ∙ one-other one n other in cc)
+]
+
+-- a candidate is up to itself, and so are those before it
+pub own-and-before : (members : List ℕ) (first row column amount : ℕ) → 1 ≤ first → has_member members first ≡ true → column ≤ row
+    → portion (row == first) (has_member (first ∷ []) column) amount + portion (row == first) (has_member (members_upto members (first - 1)) column) amount
+    ≡ portion (row == first) (has_member (members_upto members first) column) amount
+own-and-before members first row column amount some is low = elim (cases_eq row first) [
+  | inr other ↦
+      omega (
+        arith,
+        ap (λ b. portion b (has_member (first ∷ []) column) amount) (ne_eqb row first other),
+        ap (λ b. portion b (has_member (members_upto members (first - 1)) column) amount) (ne_eqb row first other),
+        ap (λ b. portion b (has_member (members_upto members first) column) amount) (ne_eqb row first other),
+      )
+  | inl same ↦
+      omega (
+        arith,
+        ap (λ b. portion b (has_member (first ∷ []) column) amount) (eq-eqb row first same),
+        ap (λ b. portion b (has_member (members_upto members (first - 1)) column) amount) (eq-eqb row first same),
+        ap (λ b. portion b (has_member (members_upto members first) column) amount) (eq-eqb row first same),
+        parts (cases_eq column first) (omega (arith, low, same)),
+      )
+]
+  where
+    own : (c : ℕ) → c ≡ first → has_member (first ∷ []) c ≡ true
+    own c here = ap (λ b. b || false) (eq-eqb first c (sym here))
+
+    parts : (column ≡ first) ⊎ (column ≡ first → ⊥) → column ≤ first
+        → cond (has_member (first ∷ []) column) amount 0 + cond (has_member (members_upto members (first - 1)) column) amount 0 ≡ cond (has_member (members_upto members first) column) amount 0
+    parts (inl here) few =
+        let before : has_member (members_upto members (first - 1)) column ≡ false =
+        has_member-filter (λ n. nat_le n (first - 1)) members column ∙ ap (λ b. b && has_member members column) (let high : first - 1 < column = omega (arith, here, some) in lt-leb column (first - 1) high) in
+        let upto : has_member (members_upto members first) column ≡ true =
+        has_member-filter (λ n. nat_le n first) members column ∙ ap (λ b. b && has_member members column) (le-leb column first few) ∙ ap (has_member members) here ∙ is in
+        omega (arith, ap (λ b. cond b amount 0) (own column here), ap (λ b. cond b amount 0) before, ap (λ b. cond b amount 0) upto)
+    parts (inr apart) few =
+        let before = upto-same members first column (omega (arith, few, apart)) in
+        let upto : has_member (members_upto members first) column ≡ has_member members column =
+        has_member-filter (λ n. nat_le n first) members column ∙ ap (λ b. b && has_member members column) (le-leb column first few) in
+        let other : has_member (first ∷ []) column ≡ false = ap (λ b. b || false) (ne_eqb first column (λ e. apart (sym e))) in
+        omega (arith, ap (λ b. cond b amount 0) other, ap (λ b. cond b amount 0) before, ap (λ b. cond b amount 0) upto)
 
 -- ---- steps of loops
 

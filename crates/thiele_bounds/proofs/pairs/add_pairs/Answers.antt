@@ -17,15 +17,15 @@ loop-row-init c =
       made = λ i j low. omega arith;
     }
 
-pub add_to_row-requires-clause-within : goal.add_to_row-requires-clause-within
-add_to_row-requires-clause-within c = first-low c.loop-row.row-iterator c.next.new.self c.in-Some.row c.in-Some.ensures.steps c.loop-row.invariant.rises
+pub add_to_pairs-requires-clause-within : goal.add_to_pairs-requires-clause-within
+add_to_pairs-requires-clause-within c = first-low c.loop-row.row-iterator c.next.new.self c.in-Some.row c.in-Some.ensures.steps c.loop-row.invariant.rises
 
-pub add_to_row-requires-clause-fits : goal.add_to_row-requires-clause-fits
-add_to_row-requires-clause-fits c =
+pub add_to_pairs-requires-clause-fits : goal.add_to_pairs-requires-clause-fits
+add_to_pairs-requires-clause-fits c =
     rows-fit c.loop-row.row-iterator c.next.new.self c.in-Some.row c.in-Some.ensures.steps c.loop-row.invariant.rises c.loop-row.table c.args.table.now c.loop-row.table c.args.members c.args.amount c.loop-row.invariant.made (2 ^ 64) c.requires.fits
 
-pub add_to_row-requires-clause-columns : goal.add_to_row-requires-clause-columns
-add_to_row-requires-clause-columns c n is =
+pub add_to_pairs-requires-clause-columns : goal.add_to_pairs-requires-clause-columns
+add_to_pairs-requires-clause-columns c n is =
     leb-true n c.in-Some.row (and-true (nat_le n c.in-Some.row) (has_member c.args.members n) (sym (has_member-filter (λ x. nat_le x c.in-Some.row) c.args.members n) ∙ rw c.upto.ensures at is)).0
 
 pub loop-row-preserved : goal.loop-row-preserved
@@ -33,8 +33,8 @@ loop-row-preserved c =
     let rest = rest-increasing most_candidates c.loop-row.row-iterator c.next.new.self c.in-Some.row c.in-Some.ensures.steps c.loop-row.invariant.rises in
     record {
       rises = rest.1;
-      made = rows-more c.loop-row.row-iterator c.next.new.self c.in-Some.row c.in-Some.ensures.steps c.loop-row.invariant.rises c.loop-row.table c.args.table.now c.add_to_row.new.table c.args.members c.args.amount c.loop-row.invariant.made
-          (rw c.upto.ensures at c.add_to_row.ensures);
+      made = rows-more c.loop-row.row-iterator c.next.new.self c.in-Some.row c.in-Some.ensures.steps c.loop-row.invariant.rises c.loop-row.table c.args.table.now c.add_to_pairs.new.table c.args.members c.args.amount c.loop-row.invariant.made
+          (rw c.upto.ensures at c.add_to_pairs.ensures);
     }
 
 pub returns : goal.returns

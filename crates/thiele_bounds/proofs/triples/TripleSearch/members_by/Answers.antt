@@ -85,7 +85,7 @@ sums-requires g c =
       several = c.requires.several;
       few = omega (arith, others-fit g at, c.from-others.ensures);
       candidates = free-within g at;
-      room = c.requires.room;
+      room = λ n is. omega (arith, c.requires.room n is, c.add_ballots.ensures.kept);
       small = λ i j one two less. (c.share_pairs.ensures i j one two less).small;
     }
 
@@ -122,7 +122,7 @@ returns g c weights sums =
     let raise = 3 * c.from-others.result * c.from-2.result in
     let most = c.greatest_overlap-most.result in
     let pairs = c.share_pairs.new.pairs in
-    let triples = c.args.triples.now in
+    let triples = c.add_ballots.new.triples in
     let free = node.free in
     let all : raise ≡ 3 * (node.left - 1) * most = ap (λ n. 3 * n * c.from-2.result) c.from-others.ensures ∙ ap (λ n. 3 * (node.left - 1) * n) c.from-2.ensures in
     let three : ℕ → ℕ → ℕ → ℕ = three_at totals (word_of triples) node.left raise in
@@ -136,7 +136,7 @@ returns g c weights sums =
     (without-not free i j one) (without-not free i l last) (without-not (without_member free i) j l two)) in
     narrowed-members (thiele_value weights e.rows) e.m node.set node.free node.left c.args.self.now.least (λ n. get_or c.sums.result n 0) c.saturating_sub.result c.args.self.now.size c.requires.is_node
     (λ committee whole reaches. threes-pay weights given.sums given.scale given.unit e.m c.args.self.now.shift e.rows node totals c.requires.is_node c.args.self.now.size sums c.add_ballots.ensures.valid.ballots c.add_ballots.ensures.cubics
-    c.args.self.now.least c.units.result raise (raised-enough g (goal.at.returns g c).After-from-2) c.units.ensures c.sums.result (λ i here. one-is given.sums c.args.self.now.shift e.rows node totals c.args.triples.now raise c.requires.triples i (get_or c.sums.result i 0) here (less i here (c.sums.ensures i here))) c.saturating_sub.result (due-low g (goal.at.returns g c).After-saturating_sub)
+    c.args.self.now.least c.units.result raise (raised-enough g (goal.at.returns g c).After-from-2) c.units.ensures c.sums.result (λ i here. one-is given.sums c.args.self.now.shift e.rows node totals c.add_ballots.new.triples raise c.add_ballots.ensures.triples i (get_or c.sums.result i 0) here (less i here (c.sums.ensures i here))) c.saturating_sub.result (due-low g (goal.at.returns g c).After-saturating_sub)
     committee whole reaches)
     c.members_for.result c.members_for.ensures
 

@@ -22,9 +22,5 @@ has-room g c n is =
     let low : n + 1 ≤ m + 1 = omega (arith, member-high 1 m c.args.node.now.free n c.requires.is_node.free_within is) in
     omega (arith, tetrahedron-rises (n + 1) (m + 1) low, ap (λ x. tetrahedron (x + 1)) c.m.ensures.value, c.in-Some.ensures.0, ap length c.deref_mut.ensures.value)
 
-pub add_triples-requires-clause-room : goal.add_triples-requires-clause-room
-add_triples-requires-clause-room g c = has-room g (goal.at.add_triples-requires-clause-room g c).After-deref_mut
-
 pub members_by-members-requires-clause-room : goal.members_by-members-requires-clause-room
-members_by-members-requires-clause-room g c n is =
-    omega (arith, has-room g (goal.at.members_by-members-requires-clause-room g c).After-deref_mut n is, c.add_triples.ensures.kept, ap length c.deref.ensures.value)
+members_by-members-requires-clause-room g c = has-room g (goal.at.members_by-members-requires-clause-room g c).After-deref_mut

@@ -5,8 +5,8 @@ use Rattle.ballot_base.specs.Limits.{most_candidates}
 use Rattle.thiele_bounds.proofs.PairBounds.OverlapLemmas.{portion, portion-none, place-within, row-fits, row-more}
 use Rattle.row_multipliers.proofs.MemberLemmas.{first-in, later-in}
 use Rattle.row_multipliers.proofs.SearchLemmas.{rest-increasing}
-use Rattle.thiele_bounds.proofs.pairs.add_to_row.Goals as goal
-use Rattle.thiele_bounds.proofs.pairs.add_to_row.Goals.{In-Some}
+use Rattle.thiele_bounds.proofs.pairs.add_to_pairs.Goals as goal
+use Rattle.thiele_bounds.proofs.pairs.add_to_pairs.Goals.{In-Some}
 
 pub loop-column-init : goal.loop-column-init
 loop-column-init c =
@@ -29,7 +29,7 @@ bounds-table-start c =
 pub overflow_add-table-in-loop-column : goal.overflow_add-table-in-loop-column
 overflow_add-table-in-loop-column c =
     let fit = row-fits c.loop-column.column-iterator c.next.new.self c.in-Some.column c.in-Some.ensures.steps c.loop-column.invariant.rises c.loop-column.table c.args.table.now c.args.columns c.args.row c.args.amount
-    (column-low (goal.at.overflow_add-table-in-loop-column c).In-Some) c.loop-column.invariant.made (2 ^ 64) c.requires.fits in
+    (column-low (goal.at.overflow_add-table-in-loop-column c).In-Some) c.loop-column.invariant.made (2 ^ 64) (c.requires.fits c.in-Some.column (column-low (goal.at.overflow_add-table-in-loop-column c).In-Some)) in
     rw (c.row_start-start.ensures, c.from.ensures) (omega (arith, fit))
 
 pub bounds-table-start-in-loop-column : goal.bounds-table-start-in-loop-column

@@ -4,7 +4,7 @@ use Rattle.ballot_base.specs.Limits.{most_candidates}
 use Rattle.ballot_base.specs.Lists.{IsIncreasing}
 use Rattle.thiele_bounds.specs.Steps.Paired.{overlap_at}
 use Rattle.thiele_bounds.proofs.PairBounds.OverlapLemmas.{portion}
-use Rattle.thiele_bounds.proofs.pairs.add_to_row.Given as goal
+use Rattle.thiele_bounds.proofs.pairs.add_to_pairs.Given as goal
 
 -- with what is still to be added, the numbers are those at the end
 abbrev pub invariant-loop-column : goal.invariant-loop-column
