@@ -272,7 +272,7 @@ impl<'a, A: Allocator + Copy> ThieleSearch<'a, A> {
         self.counts.tally.rule() != ThieleRule::Cc
             && node.left >= FEWEST_SEATS
             && node.set.len() <= MOST_CHOSEN
-            && self.triples.is_mostly_due(node.left)
+            && self.triples.is_due(node.left)
     }
 
     /// Like `eligible`, but by cubic majorants, if at least three seats are left.
