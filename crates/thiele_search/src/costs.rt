@@ -4,7 +4,7 @@ use row_multipliers::payoff::Limits;
 
 /// Of moved multipliers, and of triples. Of 500 random voters, or of noisy parties, many nodes end by neither.
 pub(crate) const RARE: Limits = Limits {
-    lost_share: 16,
+    lost_share: 64,
     margin: 3,
 };
 
