@@ -5,7 +5,7 @@ use row_multipliers::payoff::Limits;
 /// Of moved multipliers, and of triples. Of 500 random voters, or of noisy parties, many nodes end by neither. If moves
 /// were not tried again, party lists took three times as long under `cc`.
 pub(crate) const RARE: Limits = Limits {
-    lost_share: 16,
+    lost_share: 64,
     margin: 3,
     hope: 4,
 };
