@@ -56,7 +56,7 @@ const FIRST_ROUNDS: u64 = 6;
 const MOVES: Limits = Limits {
     lost_share: 1,
     margin: 1,
-    hope: 1,
+    tried_again: 1,
 };
 
 /// The number of sets of a short search. If a search lasts longer, a walk often finds sooner what is looked for. With

@@ -50,7 +50,7 @@ pub struct Limits {
     pub margin: u64,
     /// At one node in 16 the bound is tried again if it seems to cost up to this many times what it saves, since the
     /// first nodes may cost more than those that follow.
-    pub hope: u64,
+    pub tried_again: u64,
 }
 
 /// What a bound achieves, and what it costs, by the number of seats left. The unit of work is a visit to a set.
@@ -128,13 +128,13 @@ impl Payoff {
         let lost = self.lost.get().saturating_add(cost);
         let saved = level.saved(self.work_below(left));
         let times = saved / cost.max(1);
-        let hope = match u64::from(level.nodes) % LEFT_ALONE.max(times.saturating_mul(CAUTION)) {
+        let chance = match u64::from(level.nodes) % LEFT_ALONE.max(times.saturating_mul(CAUTION)) {
             0 => return false,
-            1 => self.limits.hope,
+            1 => self.limits.tried_again,
             _ => 1,
         };
         lost <= self.done.get() / self.limits.lost_share.max(1)
-            && saved.saturating_mul(hope) / self.limits.margin.max(1) >= cost
+            && saved.saturating_mul(chance) / self.limits.margin.max(1) >= cost
     }
 
     /// The work below a node with `left` seats left, as far as it is known: at least that with fewer seats left.

@@ -7,14 +7,14 @@ use row_multipliers::payoff::Limits;
 pub(crate) const RARE: Limits = Limits {
     lost_share: 64,
     margin: 3,
-    hope: 4,
+    tried_again: 4,
 };
 
 /// Of lean searches. With a margin of 2, parties took half as long again, and 40 random candidates took up to 1.7 times
 /// as long if a lean search was not tried again.
 pub(crate) const LEAN: Limits = Limits {
     margin: 1,
-    hope: 8,
+    tried_again: 8,
     ..RARE
 };
 
