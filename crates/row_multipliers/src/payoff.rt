@@ -126,6 +126,9 @@ impl Payoff {
         let level = level.get();
         let cost = u64::from(level.cost.value);
         let lost = self.lost.get().saturating_add(cost);
+        if lost > self.done.get() / self.limits.lost_share.max(1) {
+            return false;
+        }
         let saved = level.saved(self.work_below(left));
         let times = saved / cost.max(1);
         let chance = match u64::from(level.nodes) % LEFT_ALONE.max(times.saturating_mul(CAUTION)) {
@@ -133,8 +136,7 @@ impl Payoff {
             1 => self.limits.tried_again,
             _ => 1,
         };
-        lost <= self.done.get() / self.limits.lost_share.max(1)
-            && saved.saturating_mul(chance) / self.limits.margin.max(1) >= cost
+        saved.saturating_mul(chance) / self.limits.margin.max(1) >= cost
     }
 
     /// The work below a node with `left` seats left, as far as it is known: at least that with fewer seats left.

@@ -1,6 +1,8 @@
 //! What bounds cost, in visits to a set, and where they are worth trying. Any numbers work.
-use ballot_base::ThieleRule;
+use ballot_base::{Profile, ThieleRule};
+use row_multipliers::Payoff;
 use row_multipliers::payoff::Limits;
+use std::alloc::Allocator;
 
 /// Of moved multipliers, and of triples. Of 500 random voters, or of noisy parties, many nodes end by neither. If moves
 /// were not tried again, party lists took three times as long under `cc`.
@@ -12,14 +14,14 @@ pub(crate) const RARE: Limits = Limits {
 
 /// Of lean searches. With a margin of 2, parties took half as long again, and 40 random candidates took up to 1.7 times
 /// as long if a lean search was not tried again.
-pub(crate) const LEAN: Limits = Limits {
+const LEAN: Limits = Limits {
     margin: 1,
     tried_again: 8,
     ..RARE
 };
 
 /// How many branches a lean search enters, about.
-pub(crate) const FIRST_BRANCHES: u64 = 64;
+const FIRST_BRANCHES: u64 = 64;
 
 /// The cost of a lean search that enters this many branches: that of its table, and an eighth of a visit for each.
 pub(crate) fn lean_search(branches: u64) -> u64 {
@@ -57,4 +59,13 @@ pub(crate) fn triples(rows: usize, free: u8) -> u64 {
     let rows = rows as u64;
     free.saturating_mul(rows.saturating_add(4 * free * free))
         / rows.saturating_mul(8).saturating_add(480)
+}
+
+/// Nothing is known of the last bound of a node yet: that of triples, and under `cc` that of a lean search.
+pub(crate) fn last_bound<A: Allocator + Copy>(profile: &Profile<A>, rule: ThieleRule) -> Payoff {
+    if rule == ThieleRule::Cc {
+        Payoff::new(LEAN, lean_search(FIRST_BRANCHES))
+    } else {
+        Payoff::new(RARE, triples(profile.rows(), profile.m()))
+    }
 }

@@ -74,8 +74,7 @@ impl<'a, A: Allocator + Copy> ThieleSearch<'a, A> {
     /// Counts work, in visits, for all that is judged by it.
     fn work(&self, visits: u64) {
         self.moves.work(visits);
-        self.triples.work(visits);
-        self.lean.work(visits);
+        self.last.work(visits);
         self.symmetries.work(visits);
     }
 
@@ -186,13 +185,13 @@ impl<'a, A: Allocator + Copy> ThieleSearch<'a, A> {
         ensures { Narrows (tally_value self.now) self.now.election.m node.now least result }
     {
         let is_few = node.left <= MOST_LEFT;
-        if self.counts.tally.rule() != ThieleRule::Cc || !is_few || !self.lean.is_due(node.left) {
+        if self.counts.tally.rule() != ThieleRule::Cc || !is_few || !self.last.is_due(node.left) {
             return Some(node.free);
         }
         let search = self.lean_search(node, value, least);
         let work = costs::lean_search(search.branches);
         self.work(work);
-        self.lean
+        self.last
             .note(node, work, (!search.refutes).then_some(node.free))
     }
 
@@ -263,7 +262,7 @@ impl<'a, A: Allocator + Copy> ThieleSearch<'a, A> {
         }
         let work = costs::triples(self.counts.tally.profile().rows(), node.free.len());
         self.work(work);
-        self.triples.note(node, work, self.by_triples(node, least))
+        self.last.note(node, work, self.by_triples(node, least))
     }
 
     /// Whether triples are worth counting at a node. Under `cc` they rule out too little. Further down, their tables
@@ -272,7 +271,7 @@ impl<'a, A: Allocator + Copy> ThieleSearch<'a, A> {
         self.counts.tally.rule() != ThieleRule::Cc
             && node.left >= FEWEST_SEATS
             && node.set.len() <= MOST_CHOSEN
-            && self.triples.is_due(node.left)
+            && self.last.is_due(node.left)
     }
 
     /// Like `eligible`, but by cubic majorants, if at least three seats are left.
@@ -375,8 +374,7 @@ impl<'a, A: Allocator + Copy> Narrowing for ThieleSearch<'a, A> {
 
     fn plan(&self, node: &Node, value: u128, least: u128) -> Option<Plan> {
         self.moves.enter(node.left);
-        self.triples.enter(node.left);
-        self.lean.enter(node.left);
+        self.last.enter(node.left);
         self.symmetries.enter(node.left);
         let free = self.eligible_at_entry(node, value, least)?;
         let gains = self.counts.gains(node.set, free);

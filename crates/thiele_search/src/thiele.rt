@@ -7,7 +7,7 @@ ghost use Rattle.tie_walk.specs.Ceilings.{ceiling};
 ghost use Rattle.thiele_search.specs.Steps.Aided.{IsAided};
 
 use crate::columns::Columns;
-use crate::costs::{self, FIRST_BRANCHES, LEAN, RARE};
+use crate::costs::{self, RARE};
 use crate::counts::Counts;
 use crate::dominance::Dominance;
 use crate::search::Aids;
@@ -80,10 +80,8 @@ pub struct ThieleSearch<'a, A: Allocator + Copy = Global> {
     pub(crate) counts_pairs: Cell<bool>,
     // Where it pays to move multipliers, over all questions so far.
     pub(crate) moves: Payoff,
-    // Where it pays to count triples, over all questions so far.
-    pub(crate) triples: Payoff,
-    // Where a lean search pays, over all questions so far.
-    pub(crate) lean: Payoff,
+    // Where the last bound pays, over all questions so far: that of triples, and under `cc` that of a lean search.
+    pub(crate) last: Payoff,
     // Permutations of the candidates that keep the election.
     pub(crate) symmetries: Symmetries,
 }
@@ -132,8 +130,7 @@ impl<'a, A: Allocator + Copy + Drop> ThieleSearch<'a, A> {
             good,
             counts_pairs: Cell::new(false),
             moves: Payoff::new(RARE, costs::moves(profile.rows(), rule)),
-            triples: Payoff::new(RARE, costs::triples(profile.rows(), profile.m())),
-            lean: Payoff::new(LEAN, costs::lean_search(FIRST_BRANCHES)),
+            last: costs::last_bound(profile, rule),
             symmetries: Symmetries::none(),
         }
     }
