@@ -68,8 +68,8 @@ pub(crate) struct Amounts {
     pub(crate) three: u64,
 }
 
-/// Adds these amounts for each two and each three of the members. An amount of 0 for each three takes no time.
-pub(crate) fn add_all(pairs: &mut Table, triples: &mut [u64], members: CandSet, amounts: Amounts)
+/// Adds these amounts for each two and each three of the members.
+pub(crate) fn add_threes(pairs: &mut Table, triples: &mut [u64], members: CandSet, amounts: Amounts)
     requires room { HasRoom members triples.old }
     requires pairs_fit { (i j : ℕ) → j ≤ most_candidates → overlap_at pairs.old i j + amounts.two < 2 ^ 64 }
     requires fits { (z y x : ℕ) → x < y → y < z → word_at triples.old z y x + amounts.three < 2 ^ 64 }
@@ -82,23 +82,8 @@ pub(crate) fn add_all(pairs: &mut Table, triples: &mut [u64], members: CandSet, 
 {
     if amounts.three == 0 {
         add_pairs(pairs, members, amounts.two);
-    } else {
-        add_threes(pairs, triples, members, amounts);
+        return;
     }
-}
-
-/// Adds these amounts for each two and each three of the members.
-fn add_threes(pairs: &mut Table, triples: &mut [u64], members: CandSet, amounts: Amounts)
-    requires room { HasRoom members triples.old }
-    requires pairs_fit { (i j : ℕ) → j ≤ most_candidates → overlap_at pairs.old i j + amounts.two < 2 ^ 64 }
-    requires fits { (z y x : ℕ) → x < y → y < z → word_at triples.old z y x + amounts.three < 2 ^ 64 }
-    ensures kept { length triples.new ≡ length triples.old }
-    ensures paired { (i j : ℕ) → j ≤ most_candidates → overlap_at pairs.new i j ≡ overlap_at pairs.old i j
-        + (if has_member members i then (if has_member members j then amounts.two else 0) else 0) }
-    ensures added { (z y x : ℕ) → x < y → y < z → word_at triples.new z y x ≡ word_at triples.old z y x
-        + (if has_member members z then (if has_member members y then (if has_member members x then amounts.three
-        else 0) else 0) else 0) }
-{
     for high in members.members() {
         add_to_pairs(pairs, high, CandSet::empty().with(high), amounts.two);
         add_to_plane(pairs, triples, high, members.upto(high - 1), amounts);

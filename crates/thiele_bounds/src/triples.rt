@@ -22,7 +22,7 @@ ghost use Rattle.thiele_bounds.specs.Steps.Units.{most_overlap};
 use crate::majorant::{HitSums, Majorant, PLACES_BEFORE, PLACES_OPEN};
 use crate::pairs::{TABLE_PLACES, Table, Totals, place, row_start};
 use crate::rough::Rough;
-use crate::triple_table::{Amounts, TripleMemory, add_all, plane_start};
+use crate::triple_table::{Amounts, TripleMemory, add_threes, plane_start};
 use ballot_base::{CandSet, MOST_CANDIDATES, PLACES, Profile, Worths};
 use row_multipliers::Node;
 use std::alloc::Allocator;
@@ -131,7 +131,7 @@ impl<A: Allocator + Copy> TripleSearch<'_, A> {
                 two: voters * majorant.overlap,
                 three: voters * triple,
             };
-            add_all(&mut totals.overlaps, triples, approved, amounts);
+            add_threes(&mut totals.overlaps, triples, approved, amounts);
         }
     }
 

@@ -120,23 +120,23 @@ pub overflow_mul-amounts-in-loop-ballot : goal.overflow_mul-amounts-in-loop-ball
 overflow_mul-amounts-in-loop-ballot g c =
     omega (arith, fits g (goal.at.overflow_mul-amounts-in-loop-ballot g c).After-of_ballot-majorant, triple-small g (goal.at.overflow_mul-amounts-in-loop-ballot g c).After-triple_with-triple)
 
-pub add_all-requires-clause-room : goal.add_all-requires-clause-room
-add_all-requires-clause-room g c n is =
+pub add_threes-requires-clause-room : goal.add_threes-requires-clause-room
+add_threes-requires-clause-room g c n is =
     let free = c.args.node.now.free in
     let inside : has_member free n ≡ true = common-among c.in-Some.ballot free n (sym (ap (λ l. has_member l n) c.common-approved.ensures) ∙ is) in
     omega (arith, c.requires.room n inside, c.loop-ballot.invariant.kept)
 
-pub add_all-requires-clause-pairs_fit : goal.add_all-requires-clause-pairs_fit
-add_all-requires-clause-pairs_fit g c i j low =
-    let at = (goal.at.add_all-requires-clause-pairs_fit g c).After-of_ballot-majorant in
+pub add_threes-requires-clause-pairs_fit : goal.add_threes-requires-clause-pairs_fit
+add_threes-requires-clause-pairs_fit g c i j low =
+    let at = (goal.at.add_threes-requires-clause-pairs_fit g c).After-of_ballot-majorant in
     omega (arith, fits g at, overlap-small g at, c.loop-ballot.invariant.small_overlaps i j low, ap (λ t. overlap_at t i j) c.add_worths.ensures.overlaps)
 
-pub add_all-requires-clause-fits : goal.add_all-requires-clause-fits
-add_all-requires-clause-fits g c z y x low less =
+pub add_threes-requires-clause-fits : goal.add_threes-requires-clause-fits
+add_threes-requires-clause-fits g c z y x low less =
     omega (
       arith,
-      fits g (goal.at.add_all-requires-clause-fits g c).After-of_ballot-majorant,
-      triple-small g (goal.at.add_all-requires-clause-fits g c).After-triple_with-triple,
+      fits g (goal.at.add_threes-requires-clause-fits g c).After-of_ballot-majorant,
+      triple-small g (goal.at.add_threes-requires-clause-fits g c).After-triple_with-triple,
       c.loop-ballot.invariant.small_triples z y x low less,
     )
 
@@ -169,12 +169,12 @@ loop-ballot-preserved g c =
     let constant : cubic.constant ≡ row_constant sums shift set free node.left row = row_is.constant_is in
     let before_totals = c.loop-ballot.totals in
     let totals = c.add_worths.new.self in
-    let overlaps = c.add_all.new.pairs in
-    let triples = c.add_all.new.triples in
+    let overlaps = c.add_threes.new.pairs in
+    let triples = c.add_threes.new.triples in
     let two = row.1 * cubic.overlap in
     let three = row.1 * c.triple_with-triple.result in
     let pair : (a b : ℕ) → b ≤ most_candidates → overlap_at overlaps a b ≡ overlap_at before_totals.overlaps a b + portion (has_member approved a) (has_member approved b) two =
-    λ a b low. c.add_all.ensures.paired a b low ∙ ap (λ t. overlap_at t a b + portion (has_member approved a) (has_member approved b) two) c.add_worths.ensures.overlaps in
+    λ a b low. c.add_threes.ensures.paired a b low ∙ ap (λ t. overlap_at t a b + portion (has_member approved a) (has_member approved b) two) c.add_worths.ensures.overlaps in
     let one : Row → ℕ = row_triple sums shift set free node.left in
     let more : AreCubics sums shift (take (i + 1) e.rows) node totals.constant totals.worths overlaps = record {
       constant_is = omega (
@@ -199,7 +199,7 @@ loop-ballot-preserved g c =
     } in
     let more_triples : AreTriples sums shift (take (i + 1) e.rows) node triples =
     λ z y x low less here there beyond.
-    c.add_all.ensures.added z y x low less
+    c.add_threes.ensures.added z y x low less
     ∙ ap (λ n. word_at c.loop-ballot.triples z y x + n) (parts-same row.0 free approved z y x three c.common-approved.ensures here there beyond)
     ∙ ap (λ n. word_at c.loop-ballot.triples z y x + part (has_member row.0 z) (has_member row.0 y) (has_member row.0 x) (row.1 * n)) c.triple_with-triple.ensures.value
     ∙ ap (λ n. n + part (has_member row.0 z) (has_member row.0 y) (has_member row.0 x) (row.1 * one row)) (inv.triples z y x low less here there beyond)
@@ -215,7 +215,7 @@ loop-ballot-preserved g c =
       small_worths = λ n. subst (λ x. get_or totals.worths n 0 ≤ voter_count (take x e.rows) * (all_give * 2 ^ 8)) next
           (omega (arith, small_worth, voters, inv.small_worths n, c.add_worths.ensures.worths n, part-most (has_member approved n) (row.1 * cubic.worth)));
       self_overlaps = λ a b one other. omega (arith, inv.self_overlaps a b one other, pair a b other, pair a a one, portion-self (has_member approved a) (has_member approved b) two);
-      kept = c.add_all.ensures.kept ∙ inv.kept;
+      kept = c.add_threes.ensures.kept ∙ inv.kept;
       triples = subst (λ n. AreTriples sums shift (take n e.rows) node triples) next more_triples;
       small_triples = λ z y x low less. subst (λ n. word_at triples z y x ≤ voter_count (take n e.rows) * all_give) next
           (omega (
@@ -223,7 +223,7 @@ loop-ballot-preserved g c =
             triple-small g (goal.at.loop-ballot-preserved g c).After-triple_with-triple,
             voters,
             inv.small_triples z y x low less,
-            c.add_all.ensures.added z y x low less,
+            c.add_threes.ensures.added z y x low less,
             three-most (has_member approved z) (has_member approved y) (has_member approved x) three,
           ));
       small_overlaps = λ a b low. subst (λ x. overlap_at overlaps a b ≤ voter_count (take x e.rows) * all_give) next
