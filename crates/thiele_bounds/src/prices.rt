@@ -46,7 +46,7 @@ pub const AGAIN: Effort = Effort { rounds: 4, ..NODE };
 /// The effort for a whole search, once, if committees of a value of `units` units are looked for.
 fn root(units: u128) -> Effort {
     Effort {
-        rounds: 600,
+        rounds: 400,
         patience: 20,
         large_gap: Some(units / LARGE_GAP),
         ..NODE
