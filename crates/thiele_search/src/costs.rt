@@ -4,12 +4,12 @@ use row_multipliers::Payoff;
 use row_multipliers::payoff::Limits;
 use std::alloc::Allocator;
 
-/// Of moved multipliers, and of triples. Of 500 random voters, or of noisy parties, many nodes end by neither. If moves
-/// were not tried again, party lists took three times as long under `cc`.
+/// Of moved multipliers, and of triples. Of 500 random voters, or of noisy parties, many nodes end by neither. Tried
+/// again at four times what they save, they took up to a quarter longer with the points and lines of a plane.
 pub(crate) const RARE: Limits = Limits {
     lost_share: 64,
     margin: 3,
-    tried_again: 4,
+    tried_again: 1,
 };
 
 /// Of lean searches. With a margin of 2, parties took half as long again, and 40 random candidates took up to 1.7 times
