@@ -49,7 +49,7 @@ pub struct Limits {
     /// so that a bound seems to pay.
     pub margin: u64,
     /// At one node in 16 the bound is tried again if it seems to cost up to this many times what it saves, since the
-    /// first nodes may cost more than those that follow.
+    /// first nodes may cost more than those that follow. If this is 0, that node is left alone.
     pub tried_again: u64,
 }
 

@@ -4,11 +4,11 @@
 //! grows (`laws::gains`; Nemhauser and Wolsey, Maximizing submodular set functions, 1981). The prices of the whole
 //! election come before the gains are counted, and under `cc` the number of voters that the free candidates cover.
 //!
-//! If enough seats are left, a bound by pairs of candidates comes before the gains as well (`thiele_bounds::pairs`). It
-//! counts a voter who approves two members less than twice. Then come prices of the node itself, whose multipliers are
-//! moved (`row_multipliers::multipliers`). Pairs shorten elections whose ballots were drawn independently, and prices
-//! those whose ballots have structure. A search begins without both, since a short one ends sooner without them. Each
-//! is left out again if it does not pay (module `trials`, `row_multipliers::payoff`).
+//! A bound by pairs of candidates comes before the gains as well (`thiele_bounds::pairs`). It counts a voter who approves
+//! two members less than twice. Then come prices of the node itself, whose multipliers are moved
+//! (`row_multipliers::multipliers`). Pairs shorten elections whose ballots were drawn independently, and prices those
+//! whose ballots have structure. A search begins without both, since a short one ends sooner without them. Each is made
+//! only where it pays (`row_multipliers::payoff`).
 ghost use Rattle.std.specs.Prelude.{◌≡◌, ℕ, ◌≤◌, true, false, slice_index};
 ghost use Rattle.ballot_base.specs.CandSet.{has_member};
 ghost use Rattle.ballot_base.specs.Increments.{increments};
@@ -73,6 +73,7 @@ impl LeanSearch {
 impl<'a, A: Allocator + Copy> ThieleSearch<'a, A> {
     /// Counts work, in visits, for all that is judged by it.
     fn work(&self, visits: u64) {
+        self.pairs.work(visits);
         self.moves.work(visits);
         self.last.work(visits);
         self.symmetries.work(visits);
@@ -157,25 +158,24 @@ impl<'a, A: Allocator + Copy> ThieleSearch<'a, A> {
         }
     }
 
-    /// Like `eligible`, but by pairs, if they are worth counting: in a long search, if enough seats are left and pairs
-    /// help.
+    /// Like `eligible`, but by pairs, if they are worth counting.
     fn pair_narrowed(&self, node: &Node, least: u128) -> Option<CandSet>
         requires is_node { IsNode self.now.election.m node.now.set node.now.free }
         ensures { Narrows (tally_value self.now) self.now.election.m node.now least result }
     {
-        let uses = &self.aids.uses.pairs;
-        let is_long = uses.are_due() && self.counts_pairs.get();
-        let is_due = is_long && node.left >= fewest_seats(self.counts.tally.rule());
-        let work = if is_due {
-            costs::pairs(self.counts.tally.profile().rows())
-        } else {
-            1
-        };
-        self.work(work);
-        if !is_due {
+        self.work(1);
+        if !self.may_count_pairs(node) {
             return Some(node.free);
         }
-        uses.note(self.by_majorants(node, least, Shape::Quadratic))
+        self.work(costs::PAIRS);
+        let free = self.by_majorants(node, least, Shape::Quadratic);
+        self.pairs.note(node, costs::PAIRS, free)
+    }
+
+    /// Whether pairs are worth counting at a node. Under `cc` they rule out too little: 40 candidates, 10 seats and 500
+    /// random voters took 4.2 s with them, and 3.6 s without.
+    fn may_count_pairs(&self, node: &Node) -> bool {
+        self.counts.tally.rule() != ThieleRule::Cc && self.pairs.is_due(node.left)
     }
 
     /// Like `eligible`, but by a lean search under `cc`, if few seats are left and it is worth its work.
@@ -257,7 +257,7 @@ impl<'a, A: Allocator + Copy> ThieleSearch<'a, A> {
         requires is_node { IsNode self.now.election.m node.now.set node.now.free }
         ensures { Narrows (tally_value self.now) self.now.election.m node.now least result }
     {
-        if !self.counts_pairs.get() || !self.may_count_triples(node) {
+        if !self.may_count_triples(node) {
             return Some(node.free);
         }
         let work = costs::triples(self.counts.tally.profile().rows(), node.free.len());
@@ -373,6 +373,7 @@ impl<'a, A: Allocator + Copy> Narrowing for ThieleSearch<'a, A> {
     }
 
     fn plan(&self, node: &Node, value: u128, least: u128) -> Option<Plan> {
+        self.pairs.enter(node.left);
         self.moves.enter(node.left);
         self.last.enter(node.left);
         self.symmetries.enter(node.left);
@@ -398,18 +399,6 @@ impl<'a, A: Allocator + Copy> Narrowing for ThieleSearch<'a, A> {
 
     fn child_value(&self, plan: &Plan, _node: &Node, next: u8) -> u128 {
         plan.value + plan.worths.of(next)
-    }
-}
-
-/// With fewer seats left than this, counting gains takes less time than counting pairs. Under `cc` pairs rule out too
-/// little: 40 candidates, 10 seats and 500 random voters took 4.2 s with them, and 3.6 s without.
-fn fewest_seats(rule: ThieleRule) -> u8
-    ensures { 2 ≤ result }
-{
-    match rule {
-        ThieleRule::Av | ThieleRule::Pav | ThieleRule::Geom2 | ThieleRule::Geom3 => 5,
-        ThieleRule::Geom4 => 6,
-        ThieleRule::Cc => u8::MAX,
     }
 }
 

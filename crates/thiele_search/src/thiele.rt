@@ -7,7 +7,7 @@ ghost use Rattle.tie_walk.specs.Ceilings.{ceiling};
 ghost use Rattle.thiele_search.specs.Steps.Aided.{IsAided};
 
 use crate::columns::Columns;
-use crate::costs::{self, RARE};
+use crate::costs;
 use crate::counts::Counts;
 use crate::dominance::Dominance;
 use crate::search::Aids;
@@ -17,7 +17,6 @@ use ballot_base::{CandSet, Clones, Profile, ThieleRule};
 use row_multipliers::multipliers::Multipliers;
 use row_multipliers::{Node, Payoff};
 use std::alloc::{AllocError, Allocator, Global};
-use std::cell::Cell;
 use std::marker::Model;
 use thiele_bounds::{HitSums, Priced, TripleMemory};
 use tie_search::{Searchable, Tied, WithClones, descent};
@@ -76,8 +75,8 @@ pub struct ThieleSearch<'a, A: Allocator + Copy = Global> {
     pub(crate) aids: Aids<A>,
     // A committee to begin with.
     good: CandSet,
-    // Whether pairs are counted. A search of few sets ends sooner without them.
-    pub(crate) counts_pairs: Cell<bool>,
+    // Where pairs pay, over all questions so far.
+    pub(crate) pairs: Payoff,
     // Where it pays to move multipliers, over all questions so far.
     pub(crate) moves: Payoff,
     // Where the last bound pays, over all questions so far: that of triples, and under `cc` that of a lean search.
@@ -128,8 +127,8 @@ impl<'a, A: Allocator + Copy + Drop> ThieleSearch<'a, A> {
             },
             counts: memory.counts,
             good,
-            counts_pairs: Cell::new(false),
-            moves: Payoff::new(RARE, costs::moves(profile.rows(), rule)),
+            pairs: costs::pairs(),
+            moves: costs::moved(profile.rows(), rule),
             last: costs::last_bound(profile, rule),
             symmetries: Symmetries::none(),
         }
@@ -171,11 +170,9 @@ impl<'a, A: Allocator + Copy> Searchable for ThieleSearch<'a, A> {
     }
 
     fn find(&self, node: &Node, least: u128) -> Option<CandSet> {
-        // One winner after another is asked for, and most of these searches end after a few sets. With pairs, some
-        // party lists took six times as long. So majorants come only where they help: in elections of grids, graphs and
-        // designs.
-        let help = self.aids.uses.roots.are_due();
-        if help {
+        // One winner after another is asked for, and most of these searches end after a few sets. So majorants of their
+        // roots come only where they help: in elections of grids, graphs and designs.
+        if self.aids.uses.roots.are_due() {
             if let Ok(found) = descent::find_within(self, *node, least, FEW_SETS) {
                 return found;
             }
@@ -183,7 +180,7 @@ impl<'a, A: Allocator + Copy> Searchable for ThieleSearch<'a, A> {
                 return None;
             }
         }
-        self.counts_pairs.set(help);
+        self.pairs.begin();
         self.moves.begin();
         descent::find(self, *node, least)
     }
@@ -211,7 +208,6 @@ impl<'a, A: Allocator + Copy> Searchable for ThieleSearch<'a, A> {
             return None;
         }
         // All winners took two to three times as long when each was searched for.
-        self.counts_pairs.set(true);
         descent::list_tied(self, all, least)
     }
 }

@@ -1,7 +1,7 @@
 //! Which tests of a set are worth making.
 //!
-//! Three tests may give up a set: how many voters its free candidates cover, prices of the whole election, and pairs. A
-//! fourth may give up the root of a search. Which of them help depends on the ballots: prices shorten an election among
+//! Two quick tests may give up a set: how many voters its free candidates cover, and prices of the whole election. A
+//! third may give up the root of a search. Which of them help depends on the ballots: prices shorten an election among
 //! neighbours, and seldom a random one. So a search counts how often each test gave up a set. Any test may be left out,
 //! so nothing is proved of these counts.
 ghost use Rattle.std.specs.Prelude.{◌≡◌};
@@ -13,8 +13,7 @@ use std::cell::Cell;
 /// elections among neighbours took up to 180 times as long.
 pub(crate) const FEW_SEATS: u8 = 5;
 
-/// How many more times a test is made for each set that it gave up. Of random ballots, pairs give up one set in three,
-/// and of voters who approve nearby candidates one in fourteen.
+/// How many more times a test is made for each set that it gave up.
 const TRIALS_FOR_HELP: u32 = 4;
 
 /// The maximum number of times that a test is made without help.
@@ -23,8 +22,6 @@ const MOST_TRIALS: u32 = 256;
 /// How often a test is made.
 #[derive(Clone, Copy)]
 struct Limits {
-    /// The number of sets after which the test is made.
-    begin: u32,
     /// The number of times that the test is made before it has to help.
     trials: u32,
     /// If the test does not help, it is made for one set in this number, so that its use is judged anew.
@@ -34,24 +31,14 @@ struct Limits {
 /// If prices were always asked, random elections took up to a fifth more instructions under `cc`, and if cover was,
 /// those of few different ballots a third more.
 const QUICK: Limits = Limits {
-    begin: 0,
     trials: 256,
     sample: 16,
-};
-
-/// Counting pairs costs much more than a quick test, so it is soon left out. Left out for good, elections of 64 random
-/// candidates under `geom3` and `geom4` took two to four times as long.
-const PAIRS: Limits = Limits {
-    begin: 3072,
-    trials: 48,
-    sample: 256,
 };
 
 /// Majorants of both shapes take as long as hundreds of sets, so they have to help at the first root: that of the whole
 /// election. Asked for at the root of each question that is not answered after 64 sets, noise round one ballot took
 /// twice the instructions.
 const ROOTS: Limits = Limits {
-    begin: 0,
     trials: 1,
     sample: u32::MAX,
 };
@@ -61,7 +48,6 @@ const ROOTS: Limits = Limits {
 pub(crate) struct Uses {
     pub(crate) cover: Trials,
     pub(crate) prices: Trials,
-    pub(crate) pairs: Trials,
     pub(crate) roots: Trials,
 }
 
@@ -70,7 +56,6 @@ impl Uses {
         Uses {
             cover: Trials::none(QUICK),
             prices: Trials::none(QUICK),
-            pairs: Trials::none(PAIRS),
             roots: Trials::none(ROOTS),
         }
     }
@@ -93,13 +78,11 @@ impl Trials {
         }
     }
 
-    /// Counts a set. Returns whether to make the test there: if the search is long enough, and the test helps often
-    /// enough.
+    /// Counts a set. Returns whether to make the test there: if it helps often enough.
     pub(crate) fn are_due(&self) -> bool {
         let sets = self.sets.get();
         self.sets.set(sets.saturating_add(1));
-        sets >= self.limits.begin
-            && (self.trials.get() > 0 || sets % self.limits.sample.max(1) == 0)
+        self.trials.get() > 0 || sets % self.limits.sample.max(1) == 0
     }
 
     /// Notes the answer of the test, and returns it.
