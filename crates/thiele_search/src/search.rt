@@ -35,6 +35,9 @@ use thiele_bounds::{
 use tie_search::descent::{Narrowing, Plan};
 use tie_walk::Tally;
 
+/// With fewer seats left, counting gains takes less time than counting pairs, whose tables take much stack.
+const FEWEST_WITH_PAIRS: u8 = 5;
+
 /// With fewer seats left there are no triples.
 const FEWEST_SEATS: u8 = 3;
 
@@ -175,7 +178,9 @@ impl<'a, A: Allocator + Copy> ThieleSearch<'a, A> {
     /// Whether pairs are worth counting at a node. Under `cc` they rule out too little: 40 candidates, 10 seats and 500
     /// random voters took 4.2 s with them, and 3.6 s without.
     fn may_count_pairs(&self, node: &Node) -> bool {
-        self.counts.tally.rule() != ThieleRule::Cc && self.pairs.is_due(node.left)
+        self.counts.tally.rule() != ThieleRule::Cc
+            && node.left >= FEWEST_WITH_PAIRS
+            && self.pairs.is_due(node.left)
     }
 
     /// Like `eligible`, but by a lean search under `cc`, if few seats are left and it is worth its work.
