@@ -6,7 +6,7 @@ use std::alloc::Allocator;
 
 /// Of moved multipliers, and of triples. Of 500 random voters, or of noisy parties, many nodes end by neither. Tried
 /// again at four times what they save, they took up to a quarter longer with the points and lines of a plane; if two
-/// nodes in a row were not left alone, 114 elections of many models took 7 % longer (the geometric mean).
+/// nodes in a row were not left alone, 114 elections of many models took 5 % longer (the geometric mean).
 const RARE: Limits = Limits {
     lost_share: 48,
     margin: 3,
@@ -44,7 +44,7 @@ pub(crate) fn lean_search(branches: u64) -> u64 {
     2 + branches / 8
 }
 
-/// The cost of counting pairs at a node, about. It was 10 to 26 visits with 31 to 500 ballots of 31 to 64 candidates.
+/// The cost of counting pairs at a node, about. It was 10 to 26 visits with 60 to 500 ballots for 40 to 64 candidates.
 pub(crate) const PAIRS: u64 = 16;
 
 /// About how many rounds move the multipliers of a node.
