@@ -4,8 +4,8 @@
 //! grows (`laws::gains`; Nemhauser and Wolsey, Maximizing submodular set functions, 1981). The prices of the whole
 //! election come before the gains are counted, and under `cc` the number of voters that the free candidates cover.
 //!
-//! A bound by pairs of candidates comes before the gains as well (`thiele_bounds::pairs`). It counts a voter who approves
-//! two members less than twice. Then come prices of the node itself, whose multipliers are moved
+//! A bound by pairs of candidates comes before the gains as well (`thiele_bounds::pairs`). It counts a voter who
+//! approves two members less than twice. Then come prices of the node itself, whose multipliers are moved
 //! (`row_multipliers::multipliers`). Pairs shorten elections whose ballots were drawn independently, and prices those
 //! whose ballots have structure. A search begins without both, since a short one ends sooner without them. Each is made
 //! only where it pays (`row_multipliers::payoff`).
@@ -244,8 +244,8 @@ impl<'a, A: Allocator + Copy> ThieleSearch<'a, A> {
         self.triple_narrowed(&Node { free, ..*node }, least)
     }
 
-    /// Like `eligible`, but where candidates have left a node after its entry. Triples are counted if the number of free
-    /// candidates is a multiple of three.
+    /// Like `eligible`, but where candidates have left a node after its entry. Triples are counted if the number of
+    /// free candidates is a multiple of three.
     fn eligible_again(&self, node: &Node, least: u128) -> Option<CandSet>
         requires is_node { IsNode self.now.election.m node.now.set node.now.free }
         ensures { Narrows (tally_value self.now) self.now.election.m node.now least result }
