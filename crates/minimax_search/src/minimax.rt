@@ -12,7 +12,6 @@ use crate::rows::WeighedRows;
 use crate::walk::Walk;
 use crate::weights::Shares;
 use ballot_base::{CandSet, Clones, Profile};
-use row_multipliers::payoff::Limits;
 use row_multipliers::{Node, Payoff};
 use std::alloc::{AllocError, Allocator, Global};
 use std::cell::Cell;
@@ -51,13 +50,9 @@ pub(crate) const ROUND: u64 = 2;
 /// About how many rounds move the weights of a node.
 const FIRST_ROUNDS: u64 = 6;
 
-/// Most nodes end by moved weights, so as much work may be lost on them as there is. With a quarter of it, 26 elections
-/// took an eighth more instructions. Any numbers work.
-const MOVES: Limits = Limits {
-    lost_share: 1,
-    margin: 1,
-    tried_again: 1,
-};
+/// One in this number of all visits may be lost on moved weights. Most nodes end by them, so it may be as many as there
+/// are. With one in four, 26 elections took an eighth more instructions. Any number works.
+const LOST_SHARE: u64 = 1;
 
 /// The number of sets of a short search. If a search lasts longer, a walk often finds sooner what is looked for. With
 /// 10,000, one of five elections with 64 random candidates and 10 seats took 1.9 times as long. Any number works.
@@ -74,7 +69,7 @@ impl<'a, A: Allocator + Copy + Drop> MinimaxSearch<'a, A> {
             clones: Clones::of(profile),
             shares: Shares::equal(),
             rows: WeighedRows::of(alloc, profile.rows())?,
-            moves: Payoff::new(MOVES, FIRST_ROUNDS * ROUND),
+            moves: Payoff::new(LOST_SHARE, FIRST_ROUNDS * ROUND),
             found: Cell::new(CandSet::empty()),
             lists: Lists::new(),
         })

@@ -13,16 +13,18 @@ use std::array;
 use std::cell::Cell;
 use std::marker::Model;
 
-/// At most one node in this number is left alone, to measure the work below it. Measured at nodes that a bound had not
-/// ended, it was too high, and 40 random candidates took fifteen times as long under `cc`.
-const LEFT_ALONE: u64 = 16;
-
-/// Nodes are left alone so seldom that the work below them is at most one in this number of what the bound costs. As
-/// long as one node in 16 was left alone, 12,000 random voters took up to twice as long under `pav`.
+/// At most two nodes in this number are left alone, to measure the work below them, and so few that this work is about an
+/// eighth of what the bound costs. Measured at nodes that a bound had not ended, it was too high, and 40 random
+/// candidates took fifteen times as long under `cc`. As long as one node in 16 was left alone, 12,000 random voters took
+/// up to twice as long under `pav`.
 const CAUTION: u64 = 16;
 
-/// The number of nodes, for a number of seats left, whose work below has to be known.
-const FEWEST_KNOWN: u32 = 4;
+/// The number of nodes in a row that are left alone. With one, 449 elections of many models took 3 % longer.
+const LEFT_ALONE: u64 = 2;
+
+/// How many times the work below the nodes that it ends a bound saves, about. It also narrows other nodes, and
+/// multipliers that were moved serve later nodes. Without this, elections took a seventh longer under `minimax`.
+const NARROWED: u64 = 2;
 
 /// The part of the saved work that makes up for lost work: less work was saved than measured, since a bound ends the
 /// nodes with little work below first. With an eighth, candidates on a circle took 1.37 times as long under `geom4`.
@@ -40,24 +42,12 @@ const HOPED: Mean = Mean {
 /// There is a level for each number of seats left.
 const LEVELS: usize = MOST_MEMBERS as usize + 1;
 
-/// How much work may be lost on a bound, and how much it has to save.
-#[derive(Clone, Copy)]
-pub struct Limits {
-    /// One in this number of all visits may be lost.
-    pub lost_share: u64,
-    /// How many times its cost the bound has to save. Below the first nodes there is far more work than below others,
-    /// so that a bound seems to pay.
-    pub margin: u64,
-    /// At one node in 16 the bound is tried again if it seems to cost up to this many times what it saves, since the
-    /// first nodes may cost more than those that follow. If this is 0, that node is left alone.
-    pub tried_again: u64,
-}
-
 /// What a bound achieves, and what it costs, by the number of seats left. The unit of work is a visit to a set.
 /// Contracts see nothing of it.
 #[derive(Drop)]
 pub struct Payoff {
-    limits: Limits,
+    // One in this number of all visits may be lost on the bound.
+    lost_share: u64,
     // All work of the search so far.
     done: Cell<u64>,
     // The work that was lost on the bound, less a part of what it saved.
@@ -74,10 +64,10 @@ impl Model for Payoff {
 }
 
 impl Payoff {
-    /// The bound was not made yet. It costs about `cost` visits.
-    pub fn new(limits: Limits, cost: u64) -> Payoff {
+    /// The bound was not made yet. It costs about `cost` visits. One in `lost_share` of all visits may be lost on it.
+    pub fn new(lost_share: u64, cost: u64) -> Payoff {
         Payoff {
-            limits,
+            lost_share,
             done: Cell::new(0),
             lost: Cell::new(0),
             levels: array::from_fn(|_| Cell::new(Level::first(cost))),
@@ -126,24 +116,19 @@ impl Payoff {
         let level = level.get();
         let cost = u64::from(level.cost.value);
         let lost = self.lost.get().saturating_add(cost);
-        if lost > self.done.get() / self.limits.lost_share.max(1) {
+        if lost > self.done.get() / self.lost_share.max(1) {
             return false;
         }
-        let saved = level.saved(self.work_below(left));
-        let times = saved / cost.max(1);
-        let chance = match u64::from(level.nodes) % LEFT_ALONE.max(times.saturating_mul(CAUTION)) {
-            0 => return false,
-            1 => self.limits.tried_again,
-            _ => 1,
-        };
-        saved.saturating_mul(chance) / self.limits.margin.max(1) >= cost
+        let saved = level.saved(self.work_below(left)).saturating_mul(NARROWED);
+        let times = (saved / cost.max(1)).max(1);
+        saved >= cost && u64::from(level.nodes) % times.saturating_mul(CAUTION) >= LEFT_ALONE
     }
 
     /// The work below a node with `left` seats left, as far as it is known: at least that with fewer seats left.
     fn work_below(&self, left: u8) -> u64 {
         let mut most = 0;
         for level in self.levels.iter().take(usize::from(left) + 1) {
-            most = level.get().known().max(most);
+            most = u64::from(level.get().below.value).max(most);
         }
         most
     }
@@ -188,14 +173,6 @@ impl Level {
             below: Mean::NONE,
             open: None,
         }
-    }
-
-    /// The work below a node, or 0 if too few are known.
-    fn known(self) -> u64 {
-        if self.below.count < FEWEST_KNOWN {
-            return 0;
-        }
-        u64::from(self.below.value)
     }
 
     /// The work that the bound saves on average, if there is this much below a node.

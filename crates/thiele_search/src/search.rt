@@ -170,9 +170,10 @@ impl<'a, A: Allocator + Copy> ThieleSearch<'a, A> {
         if !self.may_count_pairs(node) {
             return Some(node.free);
         }
-        self.work(costs::PAIRS);
+        let work = costs::pairs(self.counts.tally.profile().rows(), node.free.len());
+        self.work(work);
         let free = self.by_majorants(node, least, Shape::Quadratic);
-        self.pairs.note(node, costs::PAIRS, free)
+        self.pairs.note(node, work, free)
     }
 
     /// Whether pairs are worth counting at a node. Under `cc` they rule out too little: 40 candidates, 10 seats and 500

@@ -127,9 +127,9 @@ impl<'a, A: Allocator + Copy + Drop> ThieleSearch<'a, A> {
             },
             counts: memory.counts,
             good,
-            pairs: costs::pairs(),
+            pairs: costs::counted_pairs(profile.rows(), profile.m()),
             moves: costs::moved(profile.rows(), rule),
-            last: costs::last_bound(profile, rule),
+            last: costs::last_bound(profile.rows(), profile.m(), rule),
             symmetries: Symmetries::none(),
         }
     }
