@@ -168,20 +168,23 @@ impl Rows<'_> {
         ensures { (i : ℕ) → has_member self.now.free i ≡ true → IsSum self.now i (slice_index result i) }
     {
         let mut sums = Worths::none();
+        let mut beside = Worths::none();
         for i in self.free.members() {
-            sums.set(i, self.sum_of(i));
+            self.put_beside(i, &mut beside);
+            sums.set(i, self.sum_of(i, &beside));
         }
         sums
     }
 
-    fn sum_of(&self, i: u8) -> u128
+    /// The row sum of the candidate `i`, by the worths beside it.
+    fn sum_of(&self, i: u8, beside: &Worths) -> u128
         requires rows { AreRows self.now }
         requires candidates { IsIncreasing 1 most_candidates self.now.free }
         requires member { has_member self.now.free i ≡ true }
+        requires beside { AreBeside self.now i beside.now }
         ensures sum { IsSum self.now i result }
         ensures small { result < worth_limit }
     {
-        let beside = self.beside(i);
         let others = self.free.without(i);
         let threshold = beside.nth_greatest(others, self.left - 1);
         u128::from(self.left - 2) * self.totals.worths.of(i)
@@ -190,19 +193,18 @@ impl Rows<'_> {
             + beside.excess(others, threshold)
     }
 
-    /// The worth of each free candidate beside the candidate `i`.
-    fn beside(&self, i: u8) -> Worths
+    /// Puts the worth of each free candidate beside the candidate `i`. Other worths stay.
+    fn put_beside(&self, i: u8, beside: &mut Worths)
         requires rows { AreRows self.now }
         requires within { i ≤ most_candidates }
-        ensures { AreBeside self.now i result }
+        requires small { (j : ℕ) → slice_index beside.old j ≤ 2 ^ 68 }
+        ensures { AreBeside self.now i beside.new }
     {
         let factor = 2 * u128::from(self.left - 1);
-        let mut beside = Worths::none();
         for j in self.free.members() {
             let overlap = u128::from(self.totals.overlaps[place(i, j)]);
             beside.set(j, self.totals.worths.of(j) + self.raise - factor * overlap);
         }
-        beside
     }
 }
 

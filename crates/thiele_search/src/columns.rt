@@ -63,6 +63,21 @@ fn by_hits(block: &Block, set: CandSet, levels: usize) -> Block
     words
 }
 
+/// How many of the first `levels` words there are up to the last one with a voter.
+fn levels_in_use(words: &Block, levels: usize) -> usize
+    requires { levels ≤ most_members }
+    ensures few { result ≤ levels }
+    ensures others { (h : ℕ) → result ≤ h → h < levels → slice_index words.now h ≡ 0 }
+{
+    let mut used = 0;
+    for h in 0..levels {
+        if words[h] != 0 {
+            used = h + 1;
+        }
+    }
+    used
+}
+
 /// Which voters of a block approve a member of the set.
 fn covered_by(block: &Block, set: CandSet) -> u64
     ensures { (ballot_at : ℕ → List ℕ) → IsBlock ballot_at block.now → (i : ℕ) → i < block_voters
@@ -236,6 +251,7 @@ impl<A: Allocator> Columns<A> {
         }
         let levels = self.levels.min(usize::from(set.len()) + 1);
         let words = by_hits(block, set, levels);
+        let levels = levels_in_use(&words, levels);
         for candidate in free.members() {
             let column = block[usize::from(candidate)];
             let given = given_by(&words, column, &self.weights, levels);

@@ -13,9 +13,6 @@ use Rattle.row_multipliers.proofs.SearchLemmas.{sum-most}
 use Rattle.thiele_bounds.proofs.pairs.Rows.sum_of.Goals as goal
 use Rattle.thiele_bounds.proofs.pairs.Rows.sum_of.Goals.{After-excess}
 
-pub beside-beside-requires-clause-within : goal.beside-beside-requires-clause-within
-beside-beside-requires-clause-within c = member-high 1 most_candidates c.args.self.now.free c.args.i c.requires.candidates c.requires.member
-
 pub of-requires : goal.of-requires
 of-requires c = member-high 1 most_candidates c.args.self.now.free c.args.i c.requires.candidates c.requires.member
 
@@ -46,13 +43,13 @@ record AreParts (c : After-excess) : Type 0 where
 parts : (c : After-excess) → AreParts c
 parts c = record {
   own = few-small c.from.result c.of.result (omega (arith, c.from.ensures, c.requires.rows.few)) (omega (arith, c.of.ensures.value, c.requires.rows.small.worths_small c.args.i));
-  alone = omega (arith, c.of-2.ensures.value, c.beside-beside.ensures.small c.args.i);
-  thresholds = few-small c.from-2.result c.nth_greatest-threshold.result (omega (arith, c.from-2.ensures, c.requires.rows.few)) (c.nth_greatest-threshold.ensures.most (2 ^ 68) c.beside-beside.ensures.small);
+  alone = omega (arith, c.of-2.ensures.value, c.requires.beside.small c.args.i);
+  thresholds = few-small c.from-2.result c.nth_greatest-threshold.result (omega (arith, c.from-2.ensures, c.requires.rows.few)) (c.nth_greatest-threshold.ensures.most (2 ^ 68) c.requires.beside.small);
   more = omega (
     arith,
     c.excess.ensures.sum,
-    ap (λ l. sum_by (λ n. get_or c.beside-beside.result n 0 - c.nth_greatest-threshold.result) l) c.without-others.ensures,
-    rest-small c.beside-beside.result c.nth_greatest-threshold.result c.args.i c.args.self.now.free c.requires.candidates c.beside-beside.ensures.small,
+    ap (λ l. sum_by (λ n. get_or c.args.beside.now n 0 - c.nth_greatest-threshold.result) l) c.without-others.ensures,
+    rest-small c.args.beside.now c.nth_greatest-threshold.result c.args.i c.args.self.now.free c.requires.candidates c.requires.beside.small,
   );
 }
 
@@ -61,8 +58,8 @@ overflow_add-result-2 c = omega (
   arith,
   few-small c.from.result c.of.result (omega (arith, c.from.ensures, c.requires.rows.few)) (omega (arith, c.of.ensures.value, c.requires.rows.small.worths_small c.args.i)),
   c.of-2.ensures.value,
-  c.beside-beside.ensures.small c.args.i,
-  few-small c.from-2.result c.nth_greatest-threshold.result (omega (arith, c.from-2.ensures, c.requires.rows.few)) (c.nth_greatest-threshold.ensures.most (2 ^ 68) c.beside-beside.ensures.small),
+  c.requires.beside.small c.args.i,
+  few-small c.from-2.result c.nth_greatest-threshold.result (omega (arith, c.from-2.ensures, c.requires.rows.few)) (c.nth_greatest-threshold.ensures.most (2 ^ 68) c.requires.beside.small),
 )
 
 pub overflow_add-result-3 : goal.overflow_add-result-3
@@ -74,12 +71,12 @@ returns-clause-small c = let part = parts (goal.at.returns-clause-small c).After
 pub returns-clause-sum : goal.returns-clause-sum
 returns-clause-sum c =
     let self = c.args.self.now in
-    let beside = c.beside-beside.result in
+    let beside = c.args.beside.now in
     let t = c.nth_greatest-threshold.result in
     let others = without_member self.free c.args.i in
     let exact : ℕ → ℕ = worth_beside (slice_index self.totals.now.worths) (overlap_at self.totals.now.overlaps) self.left self.raise c.args.i in
     let more : sum_by (λ n. get_or beside n 0 - t) others ≡ sum_by (λ n. exact n - t) others =
-    sum-equal (λ n. get_or beside n 0 - t) (λ n. exact n - t) others (λ n is. ap (λ x. x - t) (c.beside-beside.ensures.made n (without-is self.free c.args.i n is))) in (
+    sum-equal (λ n. get_or beside n 0 - t) (λ n. exact n - t) others (λ n is. ap (λ x. x - t) (c.requires.beside.made n (without-is self.free c.args.i n is))) in (
       t,
       omega (
         arith,
@@ -89,7 +86,7 @@ returns-clause-sum c =
         ap (λ n. n * c.of.result) c.from.ensures,
         ap (λ n. (self.left - 2) * n) c.of.ensures.value,
         c.of-2.ensures.value,
-        c.beside-beside.ensures.made c.args.i c.requires.member,
+        c.requires.beside.made c.args.i c.requires.member,
         ap (λ n. n * t) c.from-2.ensures,
       ),
     )

@@ -1,4 +1,4 @@
-use Rattle.std.proofs.Common.{◌≡◌, ◌∙◌, true, false, sym, ap}
+use Rattle.std.proofs.Common.{◌≡◌, ◌∙◌, true, false, sym, ap, arith}
 use Rattle.ballot_base.specs.CandSet.{has_member}
 use Rattle.ballot_base.specs.Limits.{most_candidates}
 use Rattle.thiele_bounds.specs.Steps.Paired.{IsRowSum}
@@ -14,7 +14,14 @@ loop-i-init c =
       rises = c.members-i-items.ensures.valid;
       among = λ n is. is;
       made = λ j in_ out. absurd (let e : true ≡ false = sym in_ ∙ out in cc);
+      small = λ j. omega (arith, c.none-beside.ensures j);
     }
+
+pub put_beside-requires-clause-small : goal.put_beside-requires-clause-small
+put_beside-requires-clause-small c = c.loop-i.invariant.small
+
+pub sum_of-requires-clause-beside : goal.sum_of-requires-clause-beside
+sum_of-requires-clause-beside c = c.put_beside.ensures
 
 pub sum_of-requires-clause-candidates : goal.sum_of-requires-clause-candidates
 sum_of-requires-clause-candidates c = c.members-i-items.ensures.valid
@@ -37,6 +44,7 @@ loop-i-preserved c =
       among = λ n is. inv.among n (later-in rest c.next.new.self first c.in-Some.ensures.steps inv.rises n is);
       made = one-made rest c.next.new.self first c.in-Some.ensures.steps inv.rises c.loop-i.sums c.set.new.self c.sum_of.result c.set.ensures
           (λ j n. IsRowSum self.totals.now.worths self.totals.now.overlaps self.free self.left self.raise j n) self.free c.sum_of.ensures.sum inv.made;
+      small = c.put_beside.ensures.small;
     }
 
 pub returns : goal.returns

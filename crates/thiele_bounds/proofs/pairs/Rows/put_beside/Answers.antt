@@ -7,8 +7,8 @@ use Rattle.thiele_bounds.specs.Steps.Paired.{overlap_at}
 use Rattle.row_multipliers.proofs.MemberLemmas.{first-low}
 use Rattle.thiele_bounds.proofs.PairBounds.OverlapLemmas.{one-made, one-most, pair-within}
 use Rattle.row_multipliers.proofs.SearchLemmas.{rest-increasing}
-use Rattle.thiele_bounds.proofs.pairs.Rows.beside.Goals as goal
-use Rattle.thiele_bounds.proofs.pairs.Rows.beside.Goals.{After-from-overlap}
+use Rattle.thiele_bounds.proofs.pairs.Rows.put_beside.Goals as goal
+use Rattle.thiele_bounds.proofs.pairs.Rows.put_beside.Goals.{After-from-overlap}
 
 pub loop-j-init : goal.loop-j-init
 loop-j-init c =
@@ -16,7 +16,7 @@ loop-j-init c =
     rw all record {
       rises = c.members-j-items.ensures.valid;
       made = λ j in_ out. absurd (let e : true ≡ false = sym in_ ∙ out in cc);
-      small = λ j. omega (arith, c.none-beside.ensures j);
+      small = c.requires.small;
     }
 
 pub bounds-self-place : goal.bounds-self-place

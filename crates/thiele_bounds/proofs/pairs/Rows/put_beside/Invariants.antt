@@ -5,7 +5,7 @@ use Rattle.ballot_base.specs.Limits.{most_candidates}
 use Rattle.ballot_base.specs.Lists.{IsIncreasing}
 use Rattle.thiele_bounds.specs.Pairs.{worth_beside}
 use Rattle.thiele_bounds.specs.Steps.Paired.{overlap_at}
-use Rattle.thiele_bounds.proofs.pairs.Rows.beside.Given as goal
+use Rattle.thiele_bounds.proofs.pairs.Rows.put_beside.Given as goal
 
 -- the worths of those who were passed
 abbrev pub invariant-loop-j : goal.invariant-loop-j
