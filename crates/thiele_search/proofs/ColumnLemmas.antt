@@ -254,11 +254,12 @@ module _ (ballot_at : ℕ → List ℕ) (block : List ℕ) (holds : IsBlock ball
       ∙ sym (given-more words n levels counted (omega (arith, most)))
       ∙ ap (λ h. total (λ i. given_below weights set c h (ballot_at i)) block_voters) (add-one n)
 
-  pub given-whole : (levels : ℕ) → ((i : ℕ) → levels ≤ hits (ballot_at i) set → get_or weights (hits (ballot_at i) set) 0 ≡ 0)
+  pub given-whole : (levels : ℕ)
+      → ((i : ℕ) → i < block_voters → levels ≤ hits (ballot_at i) set → get_or weights (hits (ballot_at i) set) 0 ≡ 0)
       → total (λ i. given_below weights set c levels (ballot_at i)) block_voters ≡ total (λ i. given weights set c (ballot_at i)) block_voters
   given-whole levels end =
       total-same (λ i. given_below weights set c levels (ballot_at i)) (λ i. given weights set c (ballot_at i)) block_voters
-      (λ i low. ap (λ n. cond (has_member (ballot_at i) c) n 0) (all (hits (ballot_at i) set) (end i)))
+      (λ i low. ap (λ n. cond (has_member (ballot_at i) c) n 0) (all (hits (ballot_at i) set) (end i low)))
     where
       all : (x : ℕ) → (levels ≤ x → get_or weights x 0 ≡ 0) → cond (nat_lt x levels) (get_or weights x 0) 0 ≡ get_or weights x 0
       all x none = elim (cases_lt x levels) [

@@ -1,4 +1,7 @@
-use Rattle.std.proofs.Common.{◌≡◌, ℕ, ◌+◌, ◌*◌, ◌^◌, ◌<◌, ◌≤◌, ◌==◌, ◌∙◌, Bool, true, false, cond, ◌∷◌, sym, ap, arith, get_or}
+use Rattle.std.proofs.Common.{◌≡◌, ℕ, ◌+◌, ◌*◌, ◌^◌, ◌<◌, ◌≤◌, ◌==◌, ◌∙◌, Bool, true, false, cond, ◌∷◌, refl, sym, ap, arith, inl, inr, get_or}
+use Rattle.std.specs.Int.{bit_at}
+use Rattle.std.proofs.lemmas.Bool.{cases_lt, eq-eqb}
+use Rattle.std.proofs.lemmas.Nat.Bits.{bit_at-zero}
 use Rattle.ballot_base.specs.Limits.{most_candidates, most_members}
 use Rattle.ballot_base.specs.CandSet.{has_member}
 use Rattle.ballot_base.specs.Ballots.{hits}
@@ -24,25 +27,39 @@ loop-candidate-preserved g c =
     record {
       rises = (rest-increasing most_candidates left rest at is up).1;
       made = λ n. one-added c.loop-candidate.gains c.set.new.self left rest at given.result is up is_set n _
-          (λ j. total (λ h. get_or c.args.self.now.weights h 0 * shared (get_or c.args.block.now j 0) (get_or c.by_hits-words.result h 0)) c.min-levels.result)
+          (λ j. total (λ h. get_or c.args.self.now.weights h 0 * shared (get_or c.args.block.now j 0) (get_or c.by_hits-words.result h 0)) c.levels_in_use-levels.result)
           given.ensures.sum (c.loop-candidate.invariant.made n);
       most = λ n. one-most c.loop-candidate.gains c.set.new.self left rest at given.result is up is_set n (get_or c.args.gains.now n 0) (most_members * 2 ^ 50)
-          (omega (arith, given.ensures.most, c.min-levels.ensures, c.args.self.now.sound.few)) (c.loop-candidate.invariant.most n);
+          (omega (arith, given.ensures.most, c.levels_in_use-levels.ensures.few, c.min-levels.ensures, c.args.self.now.sound.few)) (c.loop-candidate.invariant.most n);
     }
+
+-- no voter has a number of hits whose word is empty
+no-voter : (word i x : ℕ) → word ≡ 0 → bit_at word i ≡ cond (x == x) 1 0 → ⊥
+no-voter word i x empty counted =
+    let here : cond {A = ℕ} (x == x) 1 0 ≡ 1 = ap (λ b. cond {A = ℕ} b 1 0) (eq-eqb x x refl) in
+    let none : bit_at word i ≡ 0 = ap (λ w. bit_at w i) empty ∙ bit_at-zero i in
+    omega (arith, counted, here, none)
 
 pub returns-clause-sum : goal.returns-clause-sum
 returns-clause-sum g c ballot_at block n in_ =
     let weights = c.args.self.now.weights in
     let column = get_or c.args.block.now n 0 in
-    let levels = c.min-levels.result in
+    let all = c.min-levels.result in
+    let levels = c.levels_in_use-levels.result in
     let part : ℕ = total (λ h. get_or weights h 0 * shared column (get_or c.by_hits-words.result h 0)) levels in
     let made : get_or c.loop-candidate.gains n 0 + cond (has_member c.loop-candidate.candidate-iterator n) part 0 ≡ get_or c.args.gains.now n 0 + cond (has_member c.args.free n) part 0 = c.loop-candidate.invariant.made n in
+    let counted = c.by_hits-words.ensures ballot_at block in
     let summed : part ≡ total (λ i. given_below weights c.args.set n levels (ballot_at i)) block_voters =
-    given-sum ballot_at c.args.block.now block weights c.args.set n c.by_hits-words.result levels levels (c.by_hits-words.ensures ballot_at block) (omega arith) in
+    given-sum ballot_at c.args.block.now block weights c.args.set n c.by_hits-words.result all levels counted c.levels_in_use-levels.ensures.few in
     let whole : total (λ i. given_below weights c.args.set n levels (ballot_at i)) block_voters ≡ total (λ i. given weights c.args.set n (ballot_at i)) block_voters =
-    given-whole ballot_at c.args.block.now block weights c.args.set n levels (λ i high.
-    c.args.self.now.sound.end (hits (ballot_at i) c.args.set)
-    (omega (arith, high, c.min-levels.ensures, c.len.ensures.count, hits-most 1 most_candidates 1 most_candidates (ballot_at i) c.args.set (block.rises i) c.len.ensures.valid))) in
+    given-whole ballot_at c.args.block.now block weights c.args.set n levels (λ i within high.
+    let x = hits (ballot_at i) c.args.set in
+    elim (cases_lt x all) [
+      | inl below ↦ absurd (no-voter (get_or c.by_hits-words.result x 0) i x (c.levels_in_use-levels.ensures.others x high below) (counted x i below within))
+      | inr above ↦
+        c.args.self.now.sound.end x
+        (omega (arith, above, c.min-levels.ensures, c.len.ensures.count, hits-most 1 most_candidates 1 most_candidates (ballot_at i) c.args.set (block.rises i) c.len.ensures.valid))
+    ]) in
     omega (arith, made, summed, whole, ap (λ l. cond (has_member l n) part 0) c.in-None.ensures.steps.0, ap (λ b. cond b part 0) in_)
 
 -- a gain stays small
@@ -54,5 +71,5 @@ pub set-requires-clause-small : goal.set-requires-clause-small
 set-requires-clause-small g c =
     let at = c.in-Some.candidate in
     let fits = gain-fits (has_member c.loop-candidate.candidate-iterator at) (get_or c.args.gains.now at 0) (get_or c.loop-candidate.gains at 0) c.given_by-given.result
-    (c.requires at) (c.loop-candidate.invariant.most at) (omega (arith, c.given_by-given.ensures.most, c.min-levels.ensures, c.args.self.now.sound.few)) in
+    (c.requires at) (c.loop-candidate.invariant.most at) (omega (arith, c.given_by-given.ensures.most, c.levels_in_use-levels.ensures.few, c.min-levels.ensures, c.args.self.now.sound.few)) in
     omega (arith, fits, c.of.ensures.value, c.from-in-loop-candidate-2.ensures)
