@@ -1,7 +1,7 @@
 //! What bounds cost, in visits to a set. Any numbers work.
 //!
-//! Costs are about half of those that were measured with 60 to 1,000 different ballots, except those of a lean search,
-//! which are a quarter.
+//! Costs are between a half and all of those that were measured with 31 to 2,000 different ballots, except those of a
+//! lean search, which are a quarter.
 use ballot_base::ThieleRule;
 use row_multipliers::Payoff;
 
@@ -16,13 +16,11 @@ pub(crate) fn lean_search(branches: u64) -> u64 {
     2 + branches / 8
 }
 
-/// The cost of counting pairs: a pass over the ballots, and a bound for each of the free candidates, with each of the
-/// others. A visit takes longer with many ballots too.
-pub(crate) fn pairs(rows: usize, free: u8) -> u64 {
+/// The cost of counting pairs: a bound for each of the free candidates, with each of the others. A visit takes longer
+/// with many ballots too, so their number makes no difference.
+pub(crate) fn pairs(free: u8) -> u64 {
     let free = u64::from(free);
-    let rows = rows as u64;
-    (free * free).saturating_mul(rows.saturating_add(270))
-        / rows.saturating_mul(60).saturating_add(5_400)
+    (free * free).div_ceil(47)
 }
 
 /// About how many rounds move the multipliers of a node.
@@ -49,8 +47,8 @@ pub(crate) fn triples(rows: usize, free: u8) -> u64 {
 }
 
 /// Nothing is known of pairs yet.
-pub(crate) fn counted_pairs(rows: usize, m: u8) -> Payoff {
-    Payoff::new(LOST_SHARE, pairs(rows, m))
+pub(crate) fn counted_pairs(m: u8) -> Payoff {
+    Payoff::new(LOST_SHARE, pairs(m))
 }
 
 /// Nothing is known of moved multipliers yet.

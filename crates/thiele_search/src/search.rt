@@ -35,10 +35,7 @@ use thiele_bounds::{
 use tie_search::descent::{Narrowing, Plan};
 use tie_walk::Tally;
 
-/// With fewer seats left, counting gains takes less time than counting pairs, whose tables take much stack.
-const FEWEST_WITH_PAIRS: u8 = 5;
-
-/// With fewer seats left there are no triples.
+/// With fewer seats left there are no triples, and pairs are not counted either.
 const FEWEST_SEATS: u8 = 3;
 
 /// With more voters, good committees have about as many hits as random ones.
@@ -170,7 +167,7 @@ impl<'a, A: Allocator + Copy> ThieleSearch<'a, A> {
         if !self.may_count_pairs(node) {
             return Some(node.free);
         }
-        let work = costs::pairs(self.counts.tally.profile().rows(), node.free.len());
+        let work = costs::pairs(node.free.len());
         self.work(work);
         let free = self.by_majorants(node, least, Shape::Quadratic);
         self.pairs.note(node, work, free)
@@ -180,7 +177,7 @@ impl<'a, A: Allocator + Copy> ThieleSearch<'a, A> {
     /// random voters took 4.2 s with them, and 3.6 s without.
     fn may_count_pairs(&self, node: &Node) -> bool {
         self.counts.tally.rule() != ThieleRule::Cc
-            && node.left >= FEWEST_WITH_PAIRS
+            && node.left >= FEWEST_SEATS
             && self.pairs.is_due(node.left)
     }
 

@@ -127,7 +127,7 @@ impl<'a, A: Allocator + Copy + Drop> ThieleSearch<'a, A> {
             },
             counts: memory.counts,
             good,
-            pairs: costs::counted_pairs(profile.rows(), profile.m()),
+            pairs: costs::counted_pairs(profile.m()),
             moves: costs::moved(profile.rows(), rule),
             last: costs::last_bound(profile.rows(), profile.m(), rule),
             symmetries: Symmetries::none(),

@@ -57,8 +57,8 @@ returns-clause-sum g c ballot_at block n in_ =
     elim (cases_lt x all) [
       | inl below ↦ absurd (no-voter (get_or c.by_hits-words.result x 0) i x (c.levels_in_use-levels.ensures.others x high below) (counted x i below within))
       | inr above ↦
-        c.args.self.now.sound.end x
-        (omega (arith, above, c.min-levels.ensures, c.len.ensures.count, hits-most 1 most_candidates 1 most_candidates (ballot_at i) c.args.set (block.rises i) c.len.ensures.valid))
+          c.args.self.now.sound.end x
+          (omega (arith, above, c.min-levels.ensures, c.len.ensures.count, hits-most 1 most_candidates 1 most_candidates (ballot_at i) c.args.set (block.rises i) c.len.ensures.valid))
     ]) in
     omega (arith, made, summed, whole, ap (λ l. cond (has_member l n) part 0) c.in-None.ensures.steps.0, ap (λ b. cond b part 0) in_)
 
