@@ -209,10 +209,10 @@ impl Majorant {
 pub(crate) const PLACES_BEFORE: usize = 8;
 
 /// A table of majorants has places for ballots that approve fewer free candidates than this.
-pub(crate) const PLACES_OPEN: usize = 32;
+pub(crate) const PLACES_OPEN: usize = 16;
 
 /// The number of places in a table of majorants.
-const TABLE_PLACES: usize = 256;
+const TABLE_PLACES: usize = 128;
 
 /// The majorants of ballots if `left` of `free` candidates complete a set. Each is computed when it is first asked for,
 /// and kept. Contracts see the sums and `left`.

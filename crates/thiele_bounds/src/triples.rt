@@ -408,7 +408,7 @@ impl Cubic {
 }
 
 /// The number of places in a table of cubics.
-const CUBIC_PLACES: usize = 256;
+const CUBIC_PLACES: usize = 128;
 
 /// The cubics of ballots at a node, without their triples. Each is computed when it is first asked for, and kept.
 /// Contracts see for what they are made.

@@ -278,7 +278,7 @@ impl<'a, A: Allocator + Copy> ThieleSearch<'a, A> {
     }
 
     /// Like `eligible`, but by cubic majorants, if at least three seats are left.
-    // Not inlined: its tables take 39 KB of stack, which would lie beside the moving of multipliers.
+    // Not inlined: its tables take 35 KB of stack, which would lie beside the moving of multipliers.
     #[inline(never)]
     fn by_triples(&self, node: &Node, least: u128) -> Option<CandSet>
         requires is_node { IsNode self.now.election.m node.now.set node.now.free }
@@ -320,7 +320,7 @@ impl<'a, A: Allocator + Copy> ThieleSearch<'a, A> {
     }
 
     /// Like `eligible`, but by majorants of a shape, if at least two seats are left.
-    // Not inlined: its tables take 28 KB of stack, which would lie beside the moving of multipliers.
+    // Not inlined: its tables take 24 KB of stack, which would lie beside the moving of multipliers.
     #[inline(never)]
     fn by_majorants(&self, node: &Node, least: u128, shape: Shape) -> Option<CandSet>
         requires is_node { IsNode self.now.election.m node.now.set node.now.free }

@@ -13,7 +13,7 @@ abbrev pub places_before : ℕ
 places_before = 8
 
 abbrev pub places_open : ℕ
-places_open = 32
+places_open = 16
 
 -- what was made are majorants, each at its place
 abbrev pub AreMajorants : List ℕ → ℕ → List (Option Majorant) → Type 0
