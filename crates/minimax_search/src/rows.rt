@@ -179,7 +179,7 @@ impl<A: Allocator> WeighedRows<A> {
         };
         let now = weighed.get();
         let direction = (now.direction / 8)
-            .saturating_mul(5)
+            .saturating_mul(7)
             .saturating_add(HIT.saturating_mul(lacking));
         weighed.set(Weighed { direction, ..now });
         if now.weight == 0 && direction <= 0 {

@@ -23,7 +23,7 @@ use row_multipliers::{Node, Payoff};
 use std::alloc::Allocator;
 
 /// The maximum number of rounds at a node. With 10 and with 20, some elections took three times as long.
-const MOST_ROUNDS: u32 = 15;
+const MOST_ROUNDS: u32 = 20;
 
 /// The number of rounds between two judgements whether the gap closes fast enough.
 const ROUNDS_BETWEEN: u32 = 3;

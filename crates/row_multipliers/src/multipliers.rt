@@ -16,6 +16,7 @@ use ballot_base::{CandSet, Worths};
 use std::alloc::{AllocError, Allocator};
 use std::cell::Cell;
 use std::marker::Model;
+use std::mem;
 
 /// The maximum that a step moves a multiplier to. Without it, weights of ballots under minimax grew without end, and
 /// voters and candidates in a square with outliers took almost three times as long.
@@ -35,17 +36,13 @@ const ROUNDS_BETWEEN: u16 = 3;
 const LEAST_FALL: u128 = 8192;
 
 /// With a limit of the gap, the number of rounds after which a gap of more than twice the limit ends the moving. No gap
-/// this large ever came within the limit by `SECOND_DOUBT`. Without this, small random elections took
-/// up to a tenth more instructions.
+/// this large ever came within the limit by `ROUNDS_OF_DOUBT`. Without this, small random elections
+/// took up to a tenth more instructions.
 const FIRST_DOUBT: u16 = 30;
 
-/// The number of rounds after which a gap above the limit ends the moving.
-const SECOND_DOUBT: u16 = 100;
-
-/// The number of rounds after which a gap above an eighth of the limit ends the moving if it has fallen by less than a
-/// quarter since `SECOND_DOUBT`. Without this, 40 random candidates and 20 seats took a sixth more instructions under
-/// `pav`. A smaller gap moves on: voters and candidates on a line took ten times as long under `geom4` otherwise.
-const LAST_DOUBT: u16 = 200;
+/// After each this many rounds, a gap above the limit ends the moving, and so does one that falls too slowly. Without
+/// the latter, 40 random candidates and 20 seats took a sixth more instructions under `pav`.
+const ROUNDS_OF_DOUBT: u16 = 100;
 
 /// A gap counts as closed if it is less than the large one divided by this. Without it, multipliers moved on for
 /// hundreds of rounds among neighbours, which took two to four times the instructions under `pav`.
@@ -224,6 +221,9 @@ impl Multiplier {
     }
 
     fn moved(self, length: u64) -> Multiplier {
+        if self.direction == 0 {
+            return self;
+        }
         let distance = length.saturating_mul(u64::from(self.direction.unsigned_abs()));
         let now = if self.direction > 0 {
             self.now.saturating_add(distance).min(MOST_MOVED)
@@ -408,13 +408,24 @@ impl Progress {
         };
         match self.rounds {
             FIRST_DOUBT => self.smallest / 2 > large,
-            SECOND_DOUBT => {
-                self.before = self.smallest;
-                self.smallest > large
+            rounds if rounds % ROUNDS_OF_DOUBT == 0 => {
+                self.smallest > large || self.falls_too_slowly(large)
             }
-            LAST_DOUBT => self.smallest > large / 8 && self.smallest > self.before / 4 * 3,
             _ => self.smallest < large / CLOSED,
         }
+    }
+
+    /// Whether the gap has fallen too slowly since the last doubt: by less than a fifth, or by less than three tenths if
+    /// it is above an eighth of the limit. With a quarter, short rankings took a fifth longer under `geom3`. If a small
+    /// gap had to fall by a quarter too, voters and candidates on a line took twice as long under `geom3`.
+    fn falls_too_slowly(&mut self, large: u128) -> bool {
+        let before = mem::replace(&mut self.before, self.smallest);
+        let slow = if self.smallest > large / 8 {
+            before / 10 * 7
+        } else {
+            before / 5 * 4
+        };
+        self.smallest > slow
     }
 
     /// Whether the gap would not close in the rounds that are left, even at twice the pace of the last ones.

@@ -13,7 +13,7 @@ mod rough;
 mod triple_table;
 pub mod triples;
 
-pub use majorant::{HitSums, Shape};
+pub use majorant::HitSums;
 pub use pairs::PairSearch;
 pub use prices::{AGAIN, NODE, PriceSearch, Priced};
 pub use triple_table::TripleMemory;

@@ -118,6 +118,9 @@ impl HitSums {
             → slice_index self.now.sums (before + h) ≤ result.0 + multiplier * h }
         ensures small { result.0 ≤ most_given }
     {
+        if multiplier == 0 {
+            return self.free_hits(before, most);
+        }
         let mut fewest = 0;
         let mut hits = 0;
         while hits < most {
@@ -132,6 +135,22 @@ impl HitSums {
         }
         let constant = self.sums[usize::from(before + hits)] - multiplier * u64::from(hits);
         (constant, Wanted { fewest, most: hits })
+    }
+
+    /// Like `constant`, if hits cost nothing.
+    fn free_hits(&self, before: u8, most: u8) -> (u64, Wanted)
+        requires fits { before + most ≤ most_candidates }
+        ensures bounds { (h : ℕ) → h ≤ most → slice_index self.now.sums (before + h) ≤ result.0 }
+        ensures small { result.0 ≤ most_given }
+    {
+        let mut fewest = 0;
+        while fewest < most && self.increment(before + fewest) > 0 {
+            fewest += 1;
+        }
+        (
+            self.sums[usize::from(before + most)],
+            Wanted { fewest, most },
+        )
     }
 
     /// A value in units. Every value with fewer units is lower.
@@ -150,15 +169,6 @@ pub(crate) struct Majorant {
     pub(crate) overlap: u64,
 }
 
-/// How majorants are drawn.
-#[derive(Clone, Copy, PartialEq, Eq)]
-pub enum Shape {
-    /// A line. No bound is lower if all ballots can have about as many hits, as those of a grid's rows and columns.
-    Linear,
-    /// A concave parabola, which sees where members overlap.
-    Quadratic,
-}
-
 impl Majorant {
     /// A majorant for up to `most` hits after the first `before`. It is exact at `touch` further hits and at one more,
     /// as far as that can be.
@@ -167,7 +177,6 @@ impl Majorant {
         before: u8,
         most: u8,
         touch: u8,
-        shape: Shape,
     ) -> Majorant
         requires small { AreSmallSums sums.now }
         requires fits { before + most ≤ most_candidates }
@@ -184,12 +193,7 @@ impl Majorant {
         let rise = sums[first + usize::from(most)].saturating_sub(sums[at]);
         // How much an increment falls by, in half a step, if the first is `step` and all of the run rise by `rise`.
         let run = u64::from(most - touch);
-        let fall = match shape {
-            Shape::Linear => 0,
-            Shape::Quadratic => {
-                (step * run).saturating_sub(rise) / (run * run.saturating_sub(1)).max(1)
-            }
-        };
+        let fall = (step * run).saturating_sub(rise) / (run * run.saturating_sub(1)).max(1);
         let overlap = fall.min(step);
         let worth = step + overlap * (2 * u64::from(touch) + 1);
         let mut constant = 0;
@@ -221,7 +225,6 @@ pub(crate) struct Majorants<'a> {
     sums: &'a [u64; PLACES],
     left: u8,
     free: u8,
-    shape: Shape,
     table: [Option<Majorant>; TABLE_PLACES],
 }
 
@@ -234,7 +237,7 @@ impl<'a> Model for Majorants<'a> {
 }
 
 impl<'a> Majorants<'a> {
-    pub(crate) fn new(sums: &'a [u64; PLACES], left: u8, free: u8, shape: Shape) -> Majorants<'a>
+    pub(crate) fn new(sums: &'a [u64; PLACES], left: u8, free: u8) -> Majorants<'a>
         requires some { 1 ≤ free }
         requires small { AreSmallSums sums.now }
         ensures sums { result.sums ≡ sums.now }
@@ -244,7 +247,6 @@ impl<'a> Majorants<'a> {
             sums,
             left,
             free,
-            shape,
             table: [None; TABLE_PLACES],
         }
     }
@@ -275,9 +277,17 @@ impl<'a> Majorants<'a> {
         ensures { IsMajorantOf self.now.sums before (min self.now.left approved) result }
     {
         let most = self.left.min(approved);
-        let hits = usize::from(approved) * usize::from(self.left);
-        let below = hits.saturating_sub(1) / usize::from(self.free);
-        let touch = below.min(usize::from(most)) as u8;
-        Majorant::at(self.sums, before, most, touch, self.shape)
+        let touch = mean_hits(approved, self.left, self.free).min(most);
+        Majorant::at(self.sums, before, most, touch)
     }
+}
+
+/// The greatest number below the mean number of hits of a ballot that approves `approved` of `free` candidates, if
+/// `left` of them are drawn at random.
+pub(crate) fn mean_hits(approved: u8, left: u8, free: u8) -> u8
+    ensures { result ≤ approved }
+{
+    let hits = usize::from(approved) * usize::from(left);
+    let below = hits.saturating_sub(1) / usize::from(free.max(1));
+    below.min(usize::from(approved)) as u8
 }

@@ -15,7 +15,7 @@ ghost use Rattle.thiele_bounds.specs.Steps.Rows.{AreBeside, AreRows, IsSum};
 ghost use Rattle.thiele_bounds.specs.Steps.Totals.{AreSmall, BoundNode, NarrowsUnder};
 ghost use Rattle.thiele_bounds.specs.Steps.Units.{most_given, most_overlap};
 
-use crate::majorant::{HitSums, Majorant, Majorants, Shape};
+use crate::majorant::{HitSums, Majorant, Majorants};
 use ballot_base::{CandSet, MOST_CANDIDATES, Profile, Worths};
 use row_multipliers::Node;
 use std::alloc::Allocator;
@@ -48,10 +48,10 @@ pub struct PairSearch<'a, A: Allocator + Copy> {
 }
 
 impl<A: Allocator + Copy> PairSearch<'_, A> {
-    /// The free candidates of a node that can still join, by majorants of a shape. Returns `None` only if no completion
+    /// The free candidates of a node that can still join, by majorants. Returns `None` only if no completion
     /// of its set reaches the value. Counts are not kept for later nodes: when they were, long lists of ties took a
     /// quarter more instructions.
-    pub fn narrowed(&self, node: &Node, shape: Shape) -> Option<CandSet>
+    pub fn narrowed(&self, node: &Node) -> Option<CandSet>
         requires is_node { IsNode self.now.profile.now.m node.now.set node.now.free }
         requires several { 2 ≤ node.now.left }
         ensures { NarrowsUnder self.now.given.now self.now.profile.now node.now self.now.least result }
@@ -64,7 +64,7 @@ impl<A: Allocator + Copy> PairSearch<'_, A> {
             worths: Worths::none(),
             overlaps: [0; TABLE_PLACES],
         };
-        self.add_ballots(&mut totals, node, shape);
+        self.add_ballots(&mut totals, node);
         let (free, left) = (node.free, node.left);
         let factor = 2 * u128::from(left - 1);
         let raise = factor * u128::from(totals.greatest_overlap());
@@ -83,7 +83,7 @@ impl<A: Allocator + Copy> PairSearch<'_, A> {
             .members_for(free, left, due.saturating_sub(factor * totals.constant))
     }
 
-    fn add_ballots(&self, totals: &mut Totals, node: &Node, shape: Shape)
+    fn add_ballots(&self, totals: &mut Totals, node: &Node)
         requires is_node { IsNode self.now.profile.now.m node.now.set node.now.free }
         requires some { 1 ≤ length node.now.free }
         requires nothing { AreNothing totals.old.constant totals.old.worths totals.old.overlaps }
@@ -91,7 +91,7 @@ impl<A: Allocator + Copy> PairSearch<'_, A> {
             totals.new.worths totals.new.overlaps }
         ensures small { AreSmall totals.new }
     {
-        let mut majorants = Majorants::new(&self.given.sums, node.left, node.free.len(), shape);
+        let mut majorants = Majorants::new(&self.given.sums, node.left, node.free.len());
         for (ballot, voters) in self.profile.ballots() {
             let approved = ballot.common(node.free);
             let before = ballot.common(node.set).len();

@@ -8,8 +8,9 @@
 //!
 //! The multipliers are moved (`row_multipliers::multipliers`). With prices of the whole election only, five parties
 //! with noise, 64 candidates and 10 seats took 8 s and not 0.8 s under `pav`.
-ghost use Rattle.std.specs.Prelude.{◌≡◌, ℕ, ◌+◌, ◌*◌, ◌≤◌, List, [], slice_index, MatchOption, ⊤};
-ghost use Rattle.ballot_base.specs.Limits.{most_candidates, most_members};
+ghost use Rattle.std.specs.Prelude.{◌≡◌, ℕ, ◌+◌, ◌*◌, ◌<◌, ◌≤◌, List, [], slice_index, MatchOption, if◌then◌else◌, ⊤};
+ghost use Rattle.ballot_base.specs.CandSet.{has_member};
+ghost use Rattle.ballot_base.specs.Limits.{most_candidates, most_members, worth_limit};
 ghost use Rattle.ballot_base.specs.Increments.{increments};
 ghost use Rattle.tie_walk.specs.Values.{Thiele, tally_value};
 ghost use Rattle.row_multipliers.specs.Completions.{IsNode};
@@ -19,7 +20,7 @@ ghost use Rattle.thiele_bounds.specs.Steps.Units.{most_given, most_priced};
 ghost use Rattle.thiele_bounds.specs.Steps.Priced.{ArePrices};
 ghost use Rattle.thiele_bounds.specs.Steps.Totals.{BoundNode};
 
-use crate::majorant::HitSums;
+use crate::majorant::{HitSums, mean_hits};
 use ballot_base::{CandSet, Worths};
 use row_multipliers::Node;
 use row_multipliers::multipliers::{self, Constraint, Effort, Gap, Multipliers, RowBound};
@@ -41,7 +42,7 @@ pub const NODE: Effort = Effort {
 };
 
 /// The effort at the same node after a candidate has left.
-pub const AGAIN: Effort = Effort { rounds: 4, ..NODE };
+pub const AGAIN: Effort = Effort { rounds: 3, ..NODE };
 
 /// The effort for a whole search, once, if committees of a value of `units` units are looked for.
 fn root(units: u128) -> Effort {
@@ -60,6 +61,9 @@ pub struct PriceSearch<'a, A: Allocator + Copy> {
     pub tally: &'a ThieleTally<'a, A>,
     pub given: &'a HitSums,
     pub multipliers: &'a Multipliers<A>,
+    /// Whether each multiplier is instead what a hit gives after the mean number of hits of the ballot. No prices are
+    /// lower if all ballots can have about as many hits, as those of a grid's rows and columns.
+    pub is_flat: bool,
     pub least: u128,
     ghost size: { tally.now.election.m ≤ most_candidates },
     ghost sums: { AreSums (increments tally.now.rule tally.now.k) given.now.scale given.now.unit given.now.sums },
@@ -89,22 +93,27 @@ impl<A: Allocator + Copy> PriceSearch<'_, A> {
             let approved = ballot.common(node.free);
             let before = ballot.common(node.set).len();
             let most = node.left.min(approved.len());
-            let multiplier = self.multiplier(i, before, most);
+            let multiplier = self.multiplier(i, node, before, approved.len());
             let count = u128::from(voters);
             let (given, wanted) = self.given.constant(before, most, multiplier);
             self.multipliers.want(i, wanted);
             constant += count * u128::from(given);
-            worths.add(approved, count * u128::from(multiplier));
+            add_price(&mut worths, approved, count * u128::from(multiplier));
         }
         Prices { constant, worths }
     }
 
-    /// The multiplier of row i, which has `before` hits and can have up to `most` more. It is first moved between what
-    /// the first further hit gives and what the hit after the last would give.
-    fn multiplier(&self, i: usize, before: u8, most: u8) -> u64
-        requires fits { before + most ≤ most_candidates }
+    /// The multiplier of row i, which has `before` hits and approves `approved` free candidates of a node. It is first
+    /// moved between what the first further hit gives and what the hit after the last would give.
+    fn multiplier(&self, i: usize, node: &Node, before: u8, approved: u8) -> u64
+        requires fits { before + approved ≤ most_candidates }
         ensures { result ≤ most_given }
     {
+        let most = node.left.min(approved);
+        if self.is_flat {
+            let mean = mean_hits(approved, node.left, node.free.len());
+            return self.given.increment(before + mean.min(most));
+        }
         let first = self.given.increment(before);
         let last = self.given.increment(before + most);
         self.multipliers.within(i, last, first)
@@ -119,6 +128,17 @@ impl<A: Allocator + Copy> PriceSearch<'_, A> {
             let last = self.given.increment(hits.saturating_sub(1));
             self.multipliers.begin(i, next / 2 + last / 2);
         }
+    }
+}
+
+/// Adds a price to the worth of each of these candidates. Under `cc`, most are 0: those of voters whose hits suffice.
+fn add_price(worths: &mut Worths, approved: CandSet, price: u128)
+    requires fits { (n : ℕ) → slice_index worths.old n + price < worth_limit }
+    ensures { (n : ℕ) → slice_index worths.new n
+        ≡ slice_index worths.old n + (if has_member approved n then price else 0) }
+{
+    if price > 0 {
+        worths.add(approved, price);
     }
 }
 
@@ -147,14 +167,14 @@ impl<A: Allocator + Copy> RowBound for PriceSearch<'_, A> {
     }
 
     fn aim(&self, _node: &Node, best: CandSet) -> u128 {
-        let mut square: u64 = 0;
+        let mut square: u128 = 0;
         let profile = self.tally.profile();
         for i in 0..profile.rows() {
             let (ballot, voters) = profile.row(i);
             let size = self.multipliers.aim(i, ballot.common(best).len());
-            square = square.saturating_add(size.saturating_mul(u64::from(voters)));
+            square = square.saturating_add(u128::from(size) * u128::from(voters));
         }
-        u128::from(square)
+        square
     }
 }
 
@@ -196,6 +216,7 @@ impl<A: Allocator + Copy> Priced<A> {
             tally: values,
             given: &given,
             multipliers: &multipliers,
+            is_flat: false,
             least: values.value(candidates.common(good)).saturating_add(1),
         };
         search.begin(good);

@@ -27,10 +27,10 @@ use crate::trials::{FEW_SEATS, Uses};
 use crate::uncovered::{MOST_LEFT, Uncovered};
 use ballot_base::{CandSet, Clones, ThieleRule, Worths};
 use row_multipliers::Node;
-use row_multipliers::multipliers::{self, Effort};
+use row_multipliers::multipliers::{self, Effort, RowBound};
 use std::alloc::Allocator;
 use thiele_bounds::{
-    AGAIN, HitSums, NODE, PairSearch, PriceSearch, Priced, Shape, TripleMemory, TripleSearch,
+    AGAIN, HitSums, NODE, PairSearch, PriceSearch, Priced, TripleMemory, TripleSearch,
 };
 use tie_search::descent::{Narrowing, Plan};
 use tie_walk::Tally;
@@ -114,6 +114,7 @@ impl<'a, A: Allocator + Copy> ThieleSearch<'a, A> {
                     tally: &self.counts.tally,
                     given: &priced.given,
                     multipliers: &priced.multipliers,
+                    is_flat: false,
                     least,
                 };
                 let moved = multipliers::narrowed(&search, &priced.multipliers, node, effort);
@@ -169,7 +170,7 @@ impl<'a, A: Allocator + Copy> ThieleSearch<'a, A> {
         }
         let work = costs::pairs(node.free.len());
         self.work(work);
-        let free = self.by_majorants(node, least, Shape::Quadratic);
+        let free = self.by_pairs(node, least);
         self.pairs.note(node, work, free)
     }
 
@@ -300,29 +301,50 @@ impl<'a, A: Allocator + Copy> ThieleSearch<'a, A> {
         }
     }
 
-    /// Whether majorants show that no completion of the set of a root reaches the value. Only `true` is certain.
+    /// Whether flat prices or pairs show that no completion of the set of a root reaches the value. Only `true` is
+    /// certain.
     pub(crate) fn falls_short(&self, root: &Node, least: u128) -> bool
         requires is_node { IsNode self.now.election.m root.now.set root.now.free }
         ensures { result ≡ true → IsOutOfReach (tally_value self.now) self.now.election.m root.now.set root.now.free
             root.now.left least }
     {
         let uses = &self.aids.uses.roots;
-        uses.note(self.by_both_shapes(root, least)).is_none()
+        uses.note(self.bounded_at_root(root, least)).is_none()
     }
 
-    /// Like `eligible`, but by majorants of both shapes.
-    fn by_both_shapes(&self, node: &Node, least: u128) -> Option<CandSet>
+    /// Like `eligible`, but at a root, by flat prices and pairs.
+    fn bounded_at_root(&self, node: &Node, least: u128) -> Option<CandSet>
         requires is_node { IsNode self.now.election.m node.now.set node.now.free }
         ensures { Narrows (tally_value self.now) self.now.election.m node.now least result }
     {
-        self.by_majorants(node, least, Shape::Linear)?;
-        self.by_majorants(node, least, Shape::Quadratic)
+        self.flatly_priced(node, least)?;
+        self.by_pairs(node, least)
     }
 
-    /// Like `eligible`, but by majorants of a shape, if at least two seats are left.
+    /// Like `eligible`, but by flat prices.
+    fn flatly_priced(&self, node: &Node, least: u128) -> Option<CandSet>
+        requires is_node { IsNode self.now.election.m node.now.set node.now.free }
+        ensures { Narrows (tally_value self.now) self.now.election.m node.now least result }
+    {
+        match &self.aids.priced {
+            Some(priced) => {
+                let search = PriceSearch {
+                    tally: &self.counts.tally,
+                    given: &priced.given,
+                    multipliers: &priced.multipliers,
+                    is_flat: true,
+                    least,
+                };
+                search.constraint(node).narrowed(node)
+            }
+            None => Some(node.free),
+        }
+    }
+
+    /// Like `eligible`, but by pairs, if at least two seats are left.
     // Not inlined: its tables take 24 KB of stack, which would lie beside the moving of multipliers.
     #[inline(never)]
-    fn by_majorants(&self, node: &Node, least: u128, shape: Shape) -> Option<CandSet>
+    fn by_pairs(&self, node: &Node, least: u128) -> Option<CandSet>
         requires is_node { IsNode self.now.election.m node.now.set node.now.free }
         ensures { Narrows (tally_value self.now) self.now.election.m node.now least result }
     {
@@ -333,7 +355,7 @@ impl<'a, A: Allocator + Copy> ThieleSearch<'a, A> {
                     given,
                     least,
                 };
-                search.narrowed(node, shape)
+                search.narrowed(node)
             }
             _ => Some(node.free),
         }

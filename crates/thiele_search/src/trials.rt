@@ -35,11 +35,11 @@ const QUICK: Limits = Limits {
     sample: 16,
 };
 
-/// Majorants of both shapes take as long as hundreds of sets, so they have to help at the first root: that of the whole
-/// election. Asked for at the root of each question that is not answered after 64 sets, noise round one ballot took
-/// twice the instructions.
+/// Flat prices and pairs take as long as a hundred sets, so they have to help first at the root of the whole election,
+/// where they are always asked for. Asked for at the root of each question that is not answered after 64 sets, noise
+/// round one ballot took twice the instructions.
 const ROOTS: Limits = Limits {
-    trials: 1,
+    trials: 0,
     sample: u32::MAX,
 };
 
@@ -73,7 +73,7 @@ impl Trials {
     fn none(limits: Limits) -> Trials {
         Trials {
             limits,
-            sets: Cell::new(0),
+            sets: Cell::new(1),
             trials: Cell::new(limits.trials),
         }
     }

@@ -135,3 +135,22 @@ later sums before hits h amount concave first low fits =
       ap (λ m. amount * m) apart,
       split amount hits (h - hits),
     )
+
+rises-on : (sums : List ℕ) (low more : ℕ) → ((h : ℕ) → h + 1 ≤ most_candidates → get_or sums h 0 ≤ get_or sums (h + 1) 0) → low + more ≤ most_candidates
+    → get_or sums low 0 ≤ get_or sums (low + more) 0
+rises-on sums low zero rises within = omega (arith, ap (λ m. get_or sums m 0) (let e : low + 0 ≡ low = omega arith in e))
+rises-on sums low (suc more) rises within =
+    let place : low + suc more ≡ low + more + 1 = omega arith in
+    omega (
+      arith,
+      rises-on sums low more rises (omega (arith, within)),
+      rises (low + more) (omega (arith, within)),
+      ap (λ m. get_or sums m 0) place,
+    )
+
+-- more hits never give less
+pub never-less : (sums : List ℕ) (low high : ℕ) → ((h : ℕ) → h + 1 ≤ most_candidates → get_or sums h 0 ≤ get_or sums (h + 1) 0) → low ≤ high → high ≤ most_candidates
+    → get_or sums low 0 ≤ get_or sums high 0
+never-less sums low high rises order within =
+    let place : low + (high - low) ≡ high = omega (arith, order) in
+    omega (arith, rises-on sums low (high - low) rises (omega (arith, place, within)), ap (λ m. get_or sums m 0) place)

@@ -17,19 +17,23 @@ before-is g c = c.len-before.ensures.count ∙ ap length c.common.ensures ∙ le
 open-is : (g : _) (c : After-min-most g) → c.len.result ≡ hits c.row-ballot.result.0 c.args.node.now.free
 open-is g c = c.len.ensures.count ∙ ap length c.common-approved.ensures ∙ length-common c.row-ballot.result.0 c.args.node.now.free
 
-fits : (g : _) (c : After-min-most g) → c.len-before.result + c.min-most.result ≤ 64
-fits g c =
+both-fit : (g : _) (c : After-min-most g) → c.len-before.result + c.len.result ≤ 64
+both-fit g c =
     let e = c.profile-profile.result.now in
     omega (
       arith,
       before-is g c,
       open-is g c,
-      c.min-most.ensures,
       hits-both e.m c.row-ballot.result.0 c.args.node.now.set c.args.node.now.free (row-up e c.rows-i-end.ensures.valid c.loop-i.i c.row-ballot.result c.row-ballot.ensures) c.rows-i-end.ensures.valid.most (rw c.profile-profile.ensures c.requires.is_node),
     )
 
+fits : (g : _) (c : After-min-most g) → c.len-before.result + c.min-most.result ≤ 64
+fits g c = omega (arith, both-fit g c, c.min-most.ensures)
+
 pub multiplier-multiplier-requires : goal.multiplier-multiplier-requires
-multiplier-multiplier-requires g c = record { fits = fits g (goal.at.multiplier-multiplier-requires g c).After-min-most }
+multiplier-multiplier-requires g c = record {
+  fits = omega (arith, both-fit g (goal.at.multiplier-multiplier-requires g c).After-min-most, c.len.ensures.count, c.len-in-loop-i.ensures.count);
+}
 
 pub constant-given-requires-clause-fits : goal.constant-given-requires-clause-fits
 constant-given-requires-clause-fits g c = fits g (goal.at.constant-given-requires-clause-fits g c).After-min-most
@@ -63,16 +67,16 @@ loop-i-preserved g c =
     ap (λ x. x * c.from.result) c.from-count.ensures ∙ ap (λ x. row.1 * x) c.from.ensures in
     let price : c.from-count.result * c.from-in-loop-i.result ≡ row.1 * multiplier =
     ap (λ x. x * c.from-in-loop-i.result) c.from-count.ensures ∙ ap (λ x. row.1 * x) c.from-in-loop-i.ensures in
-    let worths : (n : ℕ) → has_member free n ≡ true → get_or c.add.new.self n 0 ≡ get_or c.loop-i.worths n 0 + cond (has_member row.0 n) (row.1 * multiplier) 0 =
-    λ n in_. c.add.ensures n
+    let worths : (n : ℕ) → has_member free n ≡ true → get_or c.add_price.new.worths n 0 ≡ get_or c.loop-i.worths n 0 + cond (has_member row.0 n) (row.1 * multiplier) 0 =
+    λ n in_. c.add_price.ensures n
     ∙ ap (λ x. get_or c.loop-i.worths n 0 + cond (has_member approved n) x 0) price
     ∙ ap (λ b. get_or c.loop-i.worths n 0 + cond b (row.1 * multiplier) 0) (ap (λ l. has_member l n) c.common-approved.ensures ∙ free-common row.0 free n in_) in
     let small_constant : row.1 * constant ≤ row.1 * 2 ^ 46 = mul-le-mul_left row.1 c.constant-given.ensures.small in
     let small_worth : row.1 * multiplier ≤ row.1 * 2 ^ 46 = mul-le-mul_left row.1 c.multiplier-multiplier.ensures in
     let voters = voters-more e valid i row at in
     record {
-      totals = λ weights are. subst (λ n. AreTotals weights given.scale given.unit e.m (take (i + 1) e.rows) set free c.args.node.now.left (c.loop-i.constant + n) c.add.new.self []) (sym keeps)
-          (totals-more e valid i row at weights given.sums given.scale given.unit set free c.args.node.now.left c.len-before.result c.min-most.result constant multiplier 0 c.loop-i.constant c.loop-i.worths c.add.new.self [] [] (rw c.profile-profile.ensures c.requires.is_node) are
+      totals = λ weights are. subst (λ n. AreTotals weights given.scale given.unit e.m (take (i + 1) e.rows) set free c.args.node.now.left (c.loop-i.constant + n) c.add_price.new.worths []) (sym keeps)
+          (totals-more e valid i row at weights given.sums given.scale given.unit set free c.args.node.now.left c.len-before.result c.min-most.result constant multiplier 0 c.loop-i.constant c.loop-i.worths c.add_price.new.worths [] [] (rw c.profile-profile.ensures c.requires.is_node) are
           (before-is g after) most (λ h few. omega (arith, c.constant-given.ensures.bounds h few)) (inv.totals weights are) worths
           (λ a b here there. omega (arith, portion-most (has_member row.0 a) (has_member row.0 b) (row.1 * 0))));
       small_constant = omega (arith, keeps, small_constant, voters, inv.small_constant);
@@ -82,7 +86,7 @@ loop-i-preserved g c =
         small_worth,
         voters,
         inv.small_worths n,
-        c.add.ensures n,
+        c.add_price.ensures n,
         part-most (has_member approved n) (c.from-count.result * c.from-in-loop-i.result),
       );
     }
