@@ -22,7 +22,7 @@ use row_multipliers::multipliers::{Constraint, Moved};
 use row_multipliers::{Node, Payoff};
 use std::alloc::Allocator;
 
-/// The maximum number of rounds at a node. With 10 and with 20, some elections took three times as long.
+/// The maximum number of rounds at a node. With 15, hierarchies with 10 seats took an eighth longer.
 const MOST_ROUNDS: u32 = 20;
 
 /// The number of rounds between two judgements whether the gap closes fast enough.

@@ -172,12 +172,7 @@ pub(crate) struct Majorant {
 impl Majorant {
     /// A majorant for up to `most` hits after the first `before`. It is exact at `touch` further hits and at one more,
     /// as far as that can be.
-    pub(crate) fn at(
-        sums: &[u64; PLACES],
-        before: u8,
-        most: u8,
-        touch: u8,
-    ) -> Majorant
+    pub(crate) fn at(sums: &[u64; PLACES], before: u8, most: u8, touch: u8) -> Majorant
         requires small { AreSmallSums sums.now }
         requires fits { before + most ≤ most_candidates }
         requires touch { touch ≤ most }

@@ -1,4 +1,4 @@
-use Rattle.std.proofs.Common.{ℕ, ◌+◌, ◌≤◌, ap, arith, get_or}
+use Rattle.std.proofs.Common.{◌+◌, ap, arith, get_or}
 use Rattle.thiele_bounds.proofs.PairBounds.SumLemmas.{never-less}
 use Rattle.thiele_bounds.proofs.majorant.HitSums.free_hits.Goals as goal
 
