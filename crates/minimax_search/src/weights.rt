@@ -23,7 +23,7 @@ use row_multipliers::{Node, Payoff};
 use std::alloc::Allocator;
 
 /// The maximum number of rounds at a node. With 15, hierarchies with 10 seats took an eighth longer.
-const MOST_ROUNDS: u32 = 20;
+const MOST_ROUNDS: u32 = 18;
 
 /// The number of rounds between two judgements whether the gap closes fast enough.
 const ROUNDS_BETWEEN: u32 = 3;

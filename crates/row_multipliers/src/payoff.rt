@@ -14,10 +14,10 @@ use std::cell::Cell;
 use std::marker::Model;
 
 /// At most two nodes in this number are left alone, to measure the work below them, and so few that this work is about
-/// an eighth of what the bound costs. Measured at nodes that a bound had not ended, it was too high, and 40 random
+/// a tenth of what the bound costs. Measured at nodes that a bound had not ended, it was too high, and 40 random
 /// candidates took fifteen times as long under `cc`. As long as one node in 16 was left alone, 12,000 random voters
 /// took up to twice as long under `pav`.
-const CAUTION: u64 = 16;
+const CAUTION: u64 = 20;
 
 /// The number of nodes in a row that are left alone. With one, 449 elections of many models took 3 % longer.
 const LEFT_ALONE: u64 = 2;
