@@ -22,7 +22,7 @@ use thiele_bounds::{HitSums, Priced, TripleMemory};
 use tie_search::{Searchable, Tied, WithClones, descent};
 use tie_walk::{Tally, ThieleTally};
 
-/// Most questions are answered after fewer sets. Then majorants at the root, which take as long, are not asked for.
+/// Most questions are answered after fewer sets. Then the bounds of the root, which take as long, are not asked for.
 const FEW_SETS: u64 = 64;
 
 /// All memory for a search among the committees of `k` under a Thiele rule, and the columns in it. Contracts see the
@@ -170,8 +170,8 @@ impl<'a, A: Allocator + Copy> Searchable for ThieleSearch<'a, A> {
     }
 
     fn find(&self, node: &Node, least: u128) -> Option<CandSet> {
-        // One winner after another is asked for, and most of these searches end after a few sets. So majorants of their
-        // roots come only where they help: in elections of grids, graphs and designs.
+        // One winner after another is asked for, and most of these searches end after a few sets. So flat prices and
+        // pairs at their roots come only where they help: in elections of grids, graphs and designs.
         if self.aids.uses.roots.are_due() {
             if let Ok(found) = descent::find_within(self, *node, least, FEW_SETS) {
                 return found;
@@ -203,8 +203,8 @@ impl<'a, A: Allocator + Copy> Searchable for ThieleSearch<'a, A> {
                 return None;
             }
         } else if self.falls_short(&all, least.saturating_add(1)) {
-            // If more tie than a list can have, the search for a list goes on for those of a higher value. Prices do
-            // not show that there are none, so it might not end.
+            // If more tie than a list can have, the search for a list goes on for those of a higher value. Multipliers
+            // that were moved do not show that there are none, so it might not end.
             return None;
         }
         // All winners took two to three times as long when each was searched for.

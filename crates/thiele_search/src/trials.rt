@@ -61,10 +61,11 @@ impl Uses {
     }
 }
 
-/// How many sets were searched, and how often a test is made before it has to help again.
+/// How often a test is made before it has to help again.
 #[derive(Drop)]
 pub(crate) struct Trials {
     limits: Limits,
+    // The number of the next set, from 1.
     sets: Cell<u32>,
     trials: Cell<u32>,
 }
