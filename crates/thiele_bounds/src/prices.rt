@@ -61,8 +61,8 @@ pub struct PriceSearch<'a, A: Allocator + Copy> {
     pub tally: &'a ThieleTally<'a, A>,
     pub given: &'a HitSums,
     pub multipliers: &'a Multipliers<A>,
-    /// Whether each multiplier is instead what a hit gives after the mean number of hits of the ballot. No prices are
-    /// lower if all ballots can have about as many hits, as those of a grid's rows and columns.
+    /// Whether prices are flat: the multiplier of a ballot is what a hit gives after its mean number of hits, and does
+    /// not move. No prices are lower if all ballots can have about as many hits, as those of a grid's rows and columns.
     pub is_flat: bool,
     pub least: u128,
     ghost size: { tally.now.election.m ≤ most_candidates },
